@@ -1,0 +1,3 @@
+-- what the contracts of every layer rest on
+pub mod Answers
+pub mod Format

@@ -1,0 +1,21 @@
+//! Values, places, texts and limits that every layer speaks of.
+//! `specs/Answers.antt` says how an answer may give way to want of memory, and `specs/Format.antt` what `printf` writes.
+#![tactic(auto)]
+
+mod fail;
+mod format;
+mod limits;
+mod text;
+mod token;
+mod value;
+
+pub use fail::{Fail, NoMemory};
+pub use format::{conversions, format_values};
+pub use limits::{
+    MAX_MARKS, MAX_NAME, MAX_NESTING, MAX_PRINT_ARGUMENTS, MAX_RING, MAX_SOURCE, MAX_STEPS,
+    MAX_STRING, MAX_VARIABLES,
+};
+pub use sqlite_items::{Boxed, Items as List};
+pub use text::Text;
+pub use token::{Mark, Span, Token, TokenKind};
+pub use value::{Birth, Block, Value};
