@@ -1,8 +1,6 @@
 -- A count so far beside what is counted of the rest.
-use Rattle.std.proofs.Common.{◌≡◌, ℕ, suc, ◌+◌, Option, Some, None, refl, ap, arith}
-use Rattle.ec_base.specs.declared.format.Effect.{Effect}
-use Rattle.ec_base.specs.declared.format.Effect.TheVariants as effect
-use Rattle.ec_base.specs.Format.{one_more, counted}
+use Rattle.std.proofs.Common.{◌≡◌, ℕ, ◌+◌, Option, Some, None, refl, ap, arith}
+use Rattle.ec_base.specs.Format.{one_more}
 
 -- so many more
 abbrev pub more : ℕ → Option ℕ → Option ℕ

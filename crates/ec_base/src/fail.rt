@@ -15,7 +15,7 @@ pub struct NoMemory;
 #[derive(Debug, Drop, Error)]
 #[error_bound(R: Display)]
 pub enum Fail<R> {
-    /// Memory was wanted: the call changed nothing.
+    /// Memory was wanted.
     #[error("no memory")]
     Memory,
     /// What the call refuses, and why.

@@ -99,8 +99,8 @@ fn write_effect(
     }
 }
 
-#[tactic(auto, using(crate::proofs::Counts::counts))]
 /// How many values a string asks for, `None` where a `%` in it begins none of `%d`, `%ld` and `%%`.
+#[tactic(auto, using(crate::proofs::Counts::counts))]
 pub fn conversions(string: &[u8]) -> Option<u32>
     requires { length string.now < 2 ^ 32 }
     ensures { result ≡ conversions string.now }

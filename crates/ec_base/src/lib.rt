@@ -1,9 +1,11 @@
 //! Values, places, texts and limits that every layer speaks of.
-//! `specs/Answers.antt` says how an answer may give way to want of memory, and `specs/Format.antt` what `printf` writes.
+//! `specs/Answers.antt` says how an answer may give way to want of memory, `specs/Format.antt` what `printf` writes, and
+//! `specs/Writes.antt` the same by rules.
 #![tactic(auto)]
 
 mod fail;
 mod format;
+mod laws;
 mod limits;
 mod text;
 mod token;
@@ -11,6 +13,7 @@ mod value;
 
 pub use fail::{Fail, NoMemory};
 pub use format::{conversions, format_values};
+pub use laws::strings_write;
 pub use limits::{
     MAX_MARKS, MAX_NAME, MAX_NESTING, MAX_PRINT_ARGUMENTS, MAX_RING, MAX_SOURCE, MAX_STEPS,
     MAX_STRING, MAX_VARIABLES,
@@ -19,3 +22,6 @@ pub use sqlite_items::{Boxed, Items as List};
 pub use text::Text;
 pub use token::{Mark, Span, Token, TokenKind};
 pub use value::{Birth, Block, Value};
+
+#[cfg(test)]
+mod tests;
