@@ -1,0 +1,14 @@
+mod Answering
+mod Comments
+mod Cutting
+mod Decoding
+mod Found
+mod Fronts
+mod Marking
+mod OneCut
+mod Parts
+mod Quoted
+pub mod Scanning
+mod Spelling
+mod Told
+mod Values

@@ -1,0 +1,9 @@
+-- what the contracts of `scan` and `lex` rest on
+pub mod Bytes
+pub mod Marks
+pub mod Tokens
+-- the same, computed
+pub mod Numbers
+pub mod Strings
+pub mod Front
+pub mod Scan

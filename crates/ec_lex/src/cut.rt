@@ -1,0 +1,97 @@
+//! Cuts a text into tokens.
+ghost use Rattle.std.specs.Prelude.{◌≡◌, ◌≤◌, ◌+◌, true, IfOk, length};
+ghost use Rattle.ec_base.specs.Answers.{Answers};
+ghost use Rattle.ec_lex.specs.Scan as spec;
+ghost use Rattle.ec_lex.specs.Tokens.{Cuts, CutsInto, IsOnlyCut, number_of};
+
+use crate::fault::{Fault, LexRefusal, number};
+use crate::front::{Front, read_front};
+use crate::tokens::Scan;
+use ec_base::{Fail, List, NoMemory, Span, Token, TokenKind};
+use std::alloc::Global;
+
+/// From the place `from` to the place `to` after the first `at` bytes of a text.
+fn span(at: usize, from: usize, to: usize) -> Span
+    requires from { at + from ≤ 1048576 }
+    requires to { at + to ≤ 1048576 }
+    ensures { result ≡ spec.span at from to }
+{
+    Span {
+        from: (at + from) as u32,
+        to: (at + to) as u32,
+    }
+}
+
+fn token(at: usize, kind: TokenKind, count: usize) -> Token
+    requires { at + count ≤ 1048576 }
+    ensures { result ≡ spec.token at kind count }
+{
+    Token {
+        kind,
+        at: span(at, 0, count),
+    }
+}
+
+fn refusal(at: usize, fault: Fault, from: usize, to: usize) -> LexRefusal
+    requires from { at + from ≤ 1048576 }
+    requires to { at + to ≤ 1048576 }
+    ensures { result ≡ record { what = number_of fault; at = spec.span at from to } }
+{
+    LexRefusal {
+        what: number(fault),
+        at: span(at, from, to),
+    }
+}
+
+/// Cuts a text into tokens, up to its first refusal.
+#[tactic(auto, using(crate::proofs::Scanning::scanning), unfolding(crate::specs::Scan::scanned))]
+pub fn scan(alloc: Global, text: &[u8]) -> Result<Scan, NoMemory>
+    requires { length text.now ≤ 1048576 }
+    ensures scanned { IfOk result (λ s. s ≡ spec.scanned text.now) }
+    ensures cuts { IfOk result (λ s. Cuts 0 true text.now s.tokens s.refusal) }
+    ensures only { IfOk result (λ s. IsOnlyCut text.now s.tokens s.refusal) }
+{
+    let mut tokens = List::new(alloc);
+    let mut at = 0usize;
+    let mut fresh = true;
+    loop {
+        match read_front(alloc, fresh, &text[at..])? {
+            Front::Over => {
+                tokens.push(token(at, TokenKind::End, 0))?;
+                return Ok(Scan {
+                    tokens,
+                    refusal: None,
+                });
+            }
+            Front::Skips { count, fresh: now } => {
+                at += count;
+                fresh = now;
+            }
+            Front::Takes { kind, count } => {
+                tokens.push(token(at, kind, count))?;
+                at += count;
+                fresh = false;
+            }
+            Front::Fails { fault, from, to } => {
+                return Ok(Scan {
+                    tokens,
+                    refusal: Some(refusal(at, fault, from, to)),
+                });
+            }
+        }
+    }
+}
+
+/// The tokens of a text that has no refusal.
+#[tactic(auto, unfolding(crate::specs::Scan::lexed))]
+pub fn lex(alloc: Global, text: &[u8]) -> Result<List<Token>, Fail<LexRefusal>>
+    requires { length text.now ≤ 1048576 }
+    ensures lexed { Answers result (spec.lexed text.now) }
+    ensures cuts { CutsInto text.now result }
+{
+    let Scan { tokens, refusal } = scan(alloc, text)?;
+    match refusal {
+        None => Ok(tokens),
+        Some(refusal) => Err(Fail::Refused(refusal)),
+    }
+}

@@ -1,0 +1,18 @@
+//! Cuts a source text into tokens.
+//! `specs/Tokens.antt` says which tokens and refusal a text has; `specs/Front.antt` and `specs/Scan.antt` compute the same.
+#![tactic(auto)]
+
+mod bytes;
+mod cut;
+mod fault;
+mod front;
+mod marks;
+mod numbers;
+mod strings;
+#[cfg(test)]
+mod tests;
+mod tokens;
+
+pub use cut::{lex, scan};
+pub use fault::LexRefusal;
+pub use tokens::Scan;

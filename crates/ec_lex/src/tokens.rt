@@ -1,0 +1,10 @@
+//! What a text is cut into.
+use crate::fault::LexRefusal;
+use ec_base::{List, Token};
+
+/// The tokens of a text up to its first refusal, the `End` token last where there is none.
+#[derive(Drop)]
+pub struct Scan {
+    pub tokens: List<Token>,
+    pub refusal: Option<LexRefusal>,
+}
