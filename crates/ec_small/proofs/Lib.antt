@@ -1,0 +1,23 @@
+pub mod Rules
+pub mod Sums
+pub mod SoundExpr
+pub mod Sound
+mod Reserved
+pub mod Marks
+pub mod Places
+pub mod Levels
+pub mod Judges
+pub mod Operators
+pub mod Agrees
+pub mod Prefix
+pub mod Turns
+pub mod Parts
+pub mod Fronts
+pub mod Fresh
+pub mod Statements
+pub mod Programs
+pub mod Whole
+pub mod Reading
+pub mod Steps
+pub mod Counted
+pub mod Valued
