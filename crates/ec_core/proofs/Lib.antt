@@ -1,0 +1,11 @@
+pub mod Rows
+pub mod Lists
+pub mod Enabled
+pub mod Handled
+pub mod Weights
+pub mod Moves
+pub mod Frames
+pub mod Pointers
+pub mod Grown
+pub mod Steady
+pub mod Kept
