@@ -1,0 +1,48 @@
+-- What is said of how a command ends.
+use Rattle.std.specs.Prelude.{ℕ, ◌==◌, if◌then◌else◌, List, [], ◌∷◌, ◌++◌, codes, Option, Some, None, ℤ}
+use Rattle.std.specs.Fmt.{decimal, signed_decimal}
+use Rattle.ec_base.specs.declared.token.Span.{Span}
+use Rattle.ec_driver.specs.declared.status.Refusal.{Refusal}
+use Rattle.ec_driver.specs.declared.status.Status.{Status}
+use Rattle.ec_driver.specs.declared.status.Status.TheVariants.{Done, WordsRefused, SourceRefused, StepsSpent, ReadFault, WriteFault, NoMemory}
+
+-- the exit code of a status
+abbrev pub number_of : Status → ℕ
+number_of Done = 0
+number_of WordsRefused = 1
+number_of (SourceRefused r) = 2
+number_of StepsSpent = 4
+number_of ReadFault = 5
+number_of WriteFault = 6
+number_of NoMemory = 7
+
+-- a place: two offsets
+abbrev pub place : Span → List ℕ
+place at = decimal at.from ++ codes ".." ++ decimal at.to
+
+-- the two refusals that there are: a text that is too long, and a form that isn't built yet
+abbrev pub too_long : Refusal
+too_long = record { what = 7; at = record { from = 1048576; to = 1048577 }; other = None }
+
+abbrev pub not_yet : Span → Refusal
+not_yet at = record { what = 9; at = at; other = None }
+
+-- the name of a refusal by its number
+abbrev pub name_of : ℕ → List ℕ
+name_of n = if n == 7 then codes "TooLong" else codes "NotYet"
+
+abbrev pub result_line : ℤ → List ℕ
+result_line n = codes "result " ++ signed_decimal n ++ codes "\n"
+
+abbrev pub refusal_line : Refusal → List ℕ
+refusal_line r = codes "refused " ++ decimal r.what ++ codes " at " ++ place r.at ++ codes " " ++ name_of r.what ++ codes "\n"
+
+-- the line for the error stream, where a run that has ended has this result
+abbrev pub line_of : Status → ℤ → List ℕ
+line_of Done n = result_line n
+line_of WordsRefused n = codes "words refused\n"
+line_of (SourceRefused r) n = refusal_line r
+line_of StepsSpent n = codes "steps spent\n"
+line_of ReadFault n = codes "read fault\n"
+line_of WriteFault n = []
+line_of NoMemory n = codes "no memory\n"

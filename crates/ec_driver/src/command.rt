@@ -1,0 +1,80 @@
+//! Command words.
+ghost use Rattle.std.specs.Prelude.{◌≡◌, IfOk};
+ghost use Rattle.ec_base.specs.Answers.{Answers};
+ghost use Rattle.ec_driver.specs.Command.{is_file, is_option, run_of, told_command, told_pair};
+
+use ec_base::{Fail, List, MAX_STEPS, Text};
+use std::alloc::{AllocError, Global};
+
+/// A command that the words give.
+#[derive(Drop)]
+pub enum Command {
+    Run(RunWords),
+}
+
+/// The words of `run`: the file, the arguments of main, the number of nodes, the steps that a unit may make, whether the
+/// memory is asked for, and the file for the journal.
+#[derive(Drop)]
+pub struct RunWords {
+    pub file: Text,
+    pub args: List<i64>,
+    pub nodes: u32,
+    pub steps: u64,
+    pub memory: bool,
+    pub journal: Option<Text>,
+}
+
+/// The words are no command.
+#[derive(Clone, Copy, Debug)]
+pub struct WordsRefusal;
+
+/// Whether a word begins with `-` and is more than that.
+fn is_option(word: &[u8]) -> bool
+    ensures { result ≡ is_option word.now }
+{
+    word.len() > 1 && word[0] == b'-'
+}
+
+/// Whether a word may name a source file.
+fn is_file(word: &Text) -> bool
+    ensures { result ≡ is_file word.now }
+{
+    let bytes = word.as_slice();
+    !bytes.is_empty() && !is_option(bytes) && !bytes.ends_with(b".tc")
+}
+
+/// The command of these words.
+#[tactic(auto, using(crate::proofs::TwoWords::told_two))]
+pub(crate) fn read_words(alloc: Global, words: &[Text]) -> Result<Command, Fail<WordsRefusal>>
+    ensures { Answers result (told_command words.now) }
+{
+    match words {
+        [name, file] => read_pair(alloc, name, file),
+        _ => Err(Fail::Refused(WordsRefusal)),
+    }
+}
+
+/// The command of two words.
+fn read_pair(alloc: Global, name: &Text, file: &Text) -> Result<Command, Fail<WordsRefusal>>
+    ensures { Answers result (told_pair name.now file.now) }
+{
+    if name.as_slice() == b"run".as_slice() && is_file(file) {
+        Ok(Command::Run(run_of(alloc, file)?))
+    } else {
+        Err(Fail::Refused(WordsRefusal))
+    }
+}
+
+/// The words of `run` with all that they leave out.
+fn run_of(alloc: Global, file: &Text) -> Result<RunWords, AllocError>
+    ensures { IfOk result (λ r. r ≡ run_of file.now) }
+{
+    Ok(RunWords {
+        file: file.copy(alloc)?,
+        args: List::new(alloc),
+        nodes: 1,
+        steps: MAX_STEPS,
+        memory: false,
+        journal: None,
+    })
+}

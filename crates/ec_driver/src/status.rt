@@ -1,0 +1,85 @@
+//! How a command ends.
+ghost use Rattle.std.specs.Prelude.{◌≡◌};
+ghost use Rattle.ec_driver.specs.Lines.{not_yet, number_of, too_long};
+
+use ec_base::Span;
+use ec_core::{Code, Run};
+
+/// Why and where a source is refused; `other` is a second place that the refusal speaks of.
+#[derive(Clone, Copy, Debug, PartialEq, Eq)]
+pub struct Refusal {
+    pub what: u8,
+    pub at: Span,
+    pub other: Option<Span>,
+}
+
+impl Refusal {
+    /// The file has more bytes than a source may have.
+    pub(crate) fn too_long() -> Refusal
+        ensures { result ≡ too_long }
+    {
+        Refusal {
+            what: 7,
+            at: Span {
+                from: 1_048_576,
+                to: 1_048_577,
+            },
+            other: None,
+        }
+    }
+
+    /// No program of the forms that are built continues after the token here.
+    pub(crate) fn not_yet(at: Span) -> Refusal
+        ensures { result ≡ not_yet at }
+    {
+        Refusal {
+            what: 9,
+            at,
+            other: None,
+        }
+    }
+}
+
+/// How a command ends.
+#[derive(Clone, Copy, Debug, PartialEq, Eq)]
+pub enum Status {
+    /// The run has ended.
+    Done,
+    /// The words are no command.
+    WordsRefused,
+    /// The source is refused.
+    SourceRefused(Refusal),
+    /// A unit has made as many steps as it may.
+    StepsSpent,
+    /// The file could not be read.
+    ReadFault,
+    /// The output or a line could not be written.
+    WriteFault,
+    /// Memory was wanted.
+    NoMemory,
+}
+
+impl Status {
+    /// The exit code of the program.
+    pub fn number(&self) -> u8
+        ensures { result ≡ number_of self.now }
+    {
+        match self {
+            Status::Done => 0,
+            Status::WordsRefused => 1,
+            Status::SourceRefused(_) => 2,
+            Status::StepsSpent => 4,
+            Status::ReadFault => 5,
+            Status::WriteFault => 6,
+            Status::NoMemory => 7,
+        }
+    }
+}
+
+/// What a call of the top answers: its status, and the run that it kept of which code.
+#[derive(Drop)]
+pub struct Report {
+    pub status: Status,
+    pub run: Option<Run>,
+    pub code: Option<Code>,
+}

@@ -1,0 +1,131 @@
+//! The top call and its half that runs programs.
+ghost use Rattle.std.specs.Prelude.{◌≡◌, ◌⊎◌, ◌<◌, ◌≤◌, ◌^◌, ℕ, true, List, None, Some, is_some};
+ghost use Rattle.ec_core.specs.declared.choice.Run.{Run};
+ghost use Rattle.ec_core.specs.declared.code.Code.{Code};
+ghost use Rattle.ec_core.specs.declared.node.Node.{Node};
+ghost use Rattle.ec_core.specs.Run.{HasEnded};
+ghost use Rattle.ec_core.specs.Valid.{valid};
+ghost use Rattle.ec_edge.specs.Edge.{Rose};
+ghost use Rattle.ec_small.specs.declared.tree.Program.{Program};
+ghost use Rattle.ec_driver.specs.declared.command.RunWords.{RunWords};
+ghost use Rattle.ec_driver.specs.declared.command.Command.TheVariants.{Run as RunCommand};
+ghost use Rattle.ec_driver.specs.declared.status.Refusal.{Refusal};
+ghost use Rattle.ec_driver.specs.Command.{IsGiven, IsNoCommand, IsRun, run_of};
+ghost use Rattle.ec_driver.specs.Source.{Accepts, IsRefused, Rejects};
+ghost use Rattle.ec_driver.specs.Said.{IsUntouched, Says, said_status, stream};
+ghost use Rattle.ec_driver.specs.Kept.{IsCodeOf, IsLast, IsSpent, IsWithin};
+ghost use Rattle.ec_driver.specs.Report.{HasKept, HasLast, HasRun, IsBare, IsOrFails, IsOrUnread, IsReport, IsUnrun, RunsOrFails, SaysLast};
+
+use crate::command::{Command, RunWords, read_words};
+use crate::run::run_program;
+use crate::say::bare;
+use crate::source::load;
+use crate::status::{Report, Status};
+use ec_base::{Fail, Text};
+use ec_edge::{Gate, Shelf, Sink};
+use std::alloc::Global;
+
+/// Runs the program of a file, and says and reports how that ended.
+fn run_file<S: Shelf, O: Sink, E: Sink>(
+    alloc: Global,
+    words: &RunWords,
+    shelf: &mut S,
+    out: &mut O,
+    err: &mut E,
+) -> Report
+    requires { words.now ≡ run_of words.now.file }
+    ensures report { IsReport (S.content shelf.old words.now.file) (S.read_count shelf.old) (S.read_count shelf.new) (stream (O.written out.old) (O.written out.new) (O.count out.old) (O.count out.new)) (stream (E.written err.old) (E.written err.new) (E.count err.old) (E.count err.new)) words.now result }
+    ensures stays { (name : List ℕ) → S.content shelf.new name ≡ S.content shelf.old name }
+    ensures unwritten { S.write_count shelf.new ≡ S.write_count shelf.old }
+{
+    match load(alloc, shelf, &words.file) {
+        Ok(program) => run_program(alloc, &program, out, err),
+        Err(status) => bare(alloc, err, status),
+    }
+}
+
+/// Does a command that runs a program: its output goes to `out`, and one line to `err`. Neither the gate nor the chooser
+/// is asked while there is one node.
+pub fn threaded<S: Shelf, O: Sink, E: Sink, G: Gate + Sync, F: Fn(u64) -> u64 + Sync>(
+    alloc: Global,
+    command: &Command,
+    shelf: &mut S,
+    out: &mut O,
+    err: &mut E,
+    _gate: &G,
+    _choose: &F,
+) -> Report
+    requires callable { (c : ℕ) → 1 ≤ c → c < 2 ^ 64 → F.pre _choose.now c }
+    requires below { (c r : ℕ) → 1 ≤ c → c < 2 ^ 64 → F.post _choose.now c r → r < c }
+    requires given { IsGiven command.now }
+    ensures report { (c : RunWords) → command.now ≡ RunCommand c → IsReport (S.content shelf.old c.file) (S.read_count shelf.old) (S.read_count shelf.new) (stream (O.written out.old) (O.written out.new) (O.count out.old) (O.count out.new)) (stream (E.written err.old) (E.written err.new) (E.count err.old) (E.count err.new)) c result }
+    ensures stays { (name : List ℕ) → S.content shelf.new name ≡ S.content shelf.old name }
+    ensures unwritten { S.write_count shelf.new ≡ S.write_count shelf.old }
+{
+    match command {
+        Command::Run(words) => run_file(alloc, words, shelf, out, err),
+    }
+}
+
+/// Does what the words ask for, and says how it ended: words that are no command, a source that is refused, a fault or
+/// want of memory by one line on `err`.
+pub fn earthc<S: Shelf, O: Sink, E: Sink, G: Gate + Sync, F: Fn(u64) -> u64 + Sync>(
+    alloc: Global,
+    words: &[Text],
+    shelf: &mut S,
+    out: &mut O,
+    err: &mut E,
+    gate: &G,
+    choose: &F,
+) -> Report
+    requires callable { (c : ℕ) → 1 ≤ c → c < 2 ^ 64 → F.pre choose.now c }
+    requires below { (c r : ℕ) → 1 ≤ c → c < 2 ^ 64 → F.post choose.now c r → r < c }
+
+    // Words are refused exactly where they are no command, unless the call fails first.
+    ensures words_only { result.status ≡ Status.WordsRefused → IsNoCommand words.now }
+    ensures words { IsNoCommand words.now → IsOrFails Status.WordsRefused result.status }
+
+    // A source is refused exactly where its content is, unless the call fails first.
+    ensures refused_only { (c : RunWords) → IsRun words.now c → (r : Refusal) → result.status ≡ Status.SourceRefused r → IsRefused (S.content shelf.old c.file) r }
+    ensures refused { (c : RunWords) → IsRun words.now c → (b : List ℕ) → S.content shelf.old c.file ≡ Some b → (r : Refusal) → Rejects b r → IsOrUnread (Status.SourceRefused r) result.status }
+    ensures accepted { (c : RunWords) → IsRun words.now c → (b : List ℕ) → S.content shelf.old c.file ≡ Some b → (p : Program) → Accepts b p → RunsOrFails result.status }
+
+    // A fault comes only where its count rose.
+    ensures read { result.status ≡ Status.ReadFault → Rose (S.read_count shelf.old) (S.read_count shelf.new) }
+    ensures write { result.status ≡ Status.WriteFault → Rose (O.count out.old) (O.count out.new) ⊎ Rose (E.count err.old) (E.count err.new) }
+
+    // The shelf stays as it is.
+    ensures stays { (name : List ℕ) → S.content shelf.new name ≡ S.content shelf.old name }
+    ensures unwritten { S.write_count shelf.new ≡ S.write_count shelf.old }
+
+    // Where a run was made it is kept, also where only its output couldn't be written; where none is, out is as it was.
+    ensures kept { HasRun result.status → HasKept result }
+    ensures kept_unsaid { result.status ≡ Status.WriteFault → (Rose (E.count err.old) (E.count err.new) → ⊥) → HasKept result ⊎ IsNoCommand words.now }
+    ensures both { is_some result.run ≡ is_some result.code }
+    ensures bare { IsUnrun result.status → IsBare result }
+    ensures no_command { IsNoCommand words.now → IsBare result }
+    ensures unkept { result.run ≡ None → IsUntouched (stream (O.written out.old) (O.written out.new) (O.count out.old) (O.count out.new)) }
+
+    // A kept run is a run of the very code in the report, from the start that the words ask for.
+    ensures last { (c : RunWords) → IsRun words.now c → (r : Run) → result.run ≡ Some r → HasLast c result r }
+    ensures within { (c : RunWords) → IsRun words.now c → (code : Code) (r : Run) (w : List Node) → IsLast c result code r w → IsWithin c r }
+
+    // Its code is valid, and what the file's program is owed; at its end the world agrees with that program's meaning.
+    ensures valid { (c : RunWords) → IsRun words.now c → (code : Code) (r : Run) (w : List Node) → IsLast c result code r w → valid code ≡ true }
+    ensures program { (c : RunWords) → IsRun words.now c → (code : Code) (r : Run) (w : List Node) → IsLast c result code r w → (p : Program) × IsCodeOf (S.content shelf.old c.file) p code w }
+
+    // A run that was made has ended exactly where the status is that, and otherwise its steps are spent.
+    ensures done { (c : RunWords) → IsRun words.now c → (code : Code) (r : Run) (w : List Node) → IsLast c result code r w → result.status ≡ Status.Done → HasEnded w }
+    ensures ended { (c : RunWords) → IsRun words.now c → (code : Code) (r : Run) (w : List Node) → IsLast c result code r w → HasRun result.status → HasEnded w → result.status ≡ Status.Done }
+    ensures spent { (c : RunWords) → IsRun words.now c → (code : Code) (r : Run) (w : List Node) → IsLast c result code r w → result.status ≡ Status.StepsSpent → IsSpent r }
+
+    // What is written is said of the status, or of the last world.
+    ensures says { IsUnrun result.status → Says (stream (O.written out.old) (O.written out.new) (O.count out.old) (O.count out.new)) (stream (E.written err.old) (E.written err.new) (E.count err.old) (E.count err.new)) (said_status result.status) }
+    ensures said { (c : RunWords) → IsRun words.now c → (code : Code) (r : Run) (w : List Node) → IsLast c result code r w → HasRun result.status → SaysLast (stream (O.written out.old) (O.written out.new) (O.count out.old) (O.count out.new)) (stream (E.written err.old) (E.written err.new) (E.count err.old) (E.count err.new)) w result.status }
+{
+    match read_words(alloc, words) {
+        Ok(command) => threaded(alloc, &command, shelf, out, err, gate, choose),
+        Err(Fail::Memory) => bare(alloc, err, Status::NoMemory),
+        Err(Fail::Refused(_)) => bare(alloc, err, Status::WordsRefused),
+    }
+}

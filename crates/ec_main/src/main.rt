@@ -1,0 +1,57 @@
+//! The program `earthc`: it hands the words, the files and the streams of the system to the top call.
+#![tactic(auto)]
+
+use ec_base::Text;
+use ec_driver::{Status, earthc};
+use ec_edge::{FileShelf, FreeGate, Sink, Std, StdSink};
+use std::env;
+use std::io::ErrorKind;
+use std::process::ExitCode;
+
+/// The words behind the program's name, or the status where they are no texts or memory is wanted.
+fn words(rt: &HostRuntime) -> Result<Vec<Text>, Status> {
+    let alloc = rt.alloc();
+    let args = match env::args(rt) {
+        Ok(args) => args,
+        Err(error) if error.kind() == ErrorKind::OutOfMemory => return Err(Status::NoMemory),
+        Err(_) => return Err(Status::WordsRefused),
+    };
+    let mut words = Vec::new(alloc);
+    for arg in args.skip(1) {
+        let word = Text::from_slice(alloc, arg.as_bytes()).map_err(|_| Status::NoMemory)?;
+        words.push(word).map_err(|_| Status::NoMemory)?;
+    }
+    Ok(words)
+}
+
+/// Does what the words ask for, and answers the status.
+fn run(rt: &HostRuntime, words: &[Text]) -> Status {
+    let alloc = rt.alloc();
+    let mut shelf = FileShelf::new(rt, alloc);
+    let mut out = StdSink::new(rt, Std::Out);
+    let mut err = StdSink::new(rt, Std::Err);
+    let gate = FreeGate::new();
+    let report = earthc(alloc, words, &mut shelf, &mut out, &mut err, &gate, &|_| 0);
+    report.status
+}
+
+/// Says that there are no words to hand on, and answers the status.
+fn stop(rt: &HostRuntime, status: Status) -> Status {
+    let line: &[u8] = match status {
+        Status::NoMemory => b"no memory\n",
+        _ => b"words refused\n",
+    };
+    let mut err = StdSink::new(rt, Std::Err);
+    match err.put(line) {
+        Ok(()) => status,
+        Err(_) => Status::WriteFault,
+    }
+}
+
+fn main(rt: HostRuntime) -> ExitCode {
+    let status = match words(&rt) {
+        Ok(words) => run(&rt, words.as_slice()),
+        Err(status) => stop(&rt, status),
+    };
+    ExitCode::from(status.number())
+}
