@@ -2,3 +2,4 @@
 pub mod Answers
 pub mod Format
 pub mod Writes
+pub mod Lexical

@@ -6,6 +6,18 @@ pub const MAX_SOURCE: usize = 1_048_576;
 /// The nesting at which a token may stand.
 pub const MAX_NESTING: u32 = 64;
 
+/// The functions of a program.
+pub const MAX_FUNCTIONS: u32 = 4_096;
+
+/// The structs of a program.
+pub const MAX_STRUCTS: u32 = 256;
+
+/// The parameters of a function.
+pub const MAX_PARAMETERS: u32 = 8;
+
+/// The branches of a parallel sequence.
+pub const MAX_BRANCHES: u32 = 64;
+
 /// The variables of a function.
 pub const MAX_VARIABLES: usize = 256;
 

@@ -7,7 +7,7 @@ use Rattle.std.proofs.lemmas.Bool.Decides.{nat_tests}
 use Rattle.std.proofs.lemmas.List.{length-map}
 use Rattle.std.proofs.lemmas.Map.Steps.{le-length_from_below}
 use Rattle.ec_small.specs.Words.{same, is_among, reserved, place, is_name}
-use Rattle.ec_small.specs.Lexical.{is_identifier}
+use Rattle.ec_base.specs.Lexical.{is_identifier}
 use Rattle.ec_small.specs.Grammar.{Names}
 use Rattle.ec_small.specs.Descent.{is_new}
 use Rattle.ec_small.proofs.Fronts.{same_is}

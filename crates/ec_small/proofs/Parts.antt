@@ -6,7 +6,7 @@ use Rattle.ec_small.specs.Grammar.{Kinds}
 use Rattle.ec_small.specs.Descent.{Read, and_then, only, past, past_or, only_some, past_some}
 use Rattle.std.specs.List.{list_all}
 use Rattle.std.proofs.lemmas.Bool.{and_from}
-use Rattle.ec_small.specs.Lexical.{is_lexical, AllLexical}
+use Rattle.ec_base.specs.Lexical.{is_lexical, AllLexical}
 use Rattle.ec_small.proofs.Rules.{Rule, AllLexical-append}
 
 -- ---- what is told

@@ -4,7 +4,7 @@ use Rattle.std.specs.Prelude.{Ok, Err}
 use Rattle.std.proofs.lemmas.Bool.{and_from}
 use Rattle.std.proofs.lemmas.List.Folds.{list_all-append}
 use Rattle.std.specs.List.{list_all}
-use Rattle.ec_small.specs.Lexical.{is_lexical, AllLexical}
+use Rattle.ec_base.specs.Lexical.{is_lexical, AllLexical}
 use Rattle.ec_small.specs.Grammar.{Kinds}
 use Rattle.ec_small.specs.Descent.{Read}
 

@@ -14,7 +14,7 @@ use Rattle.ec_small.specs.declared.tree.Stmt.TheVariants.{Set, Print}
 use Rattle.ec_small.specs.declared.declaration.Declared.{Declared}
 use Rattle.ec_small.specs.declared.statement.Format.{Format}
 use Rattle.ec_small.specs.Words.{place}
-use Rattle.ec_small.specs.Lexical.{AllLexical}
+use Rattle.ec_base.specs.Lexical.{AllLexical}
 use Rattle.ec_small.specs.Grammar.{Kinds, Names, IsItem, IsProduct, IsSum, IsNew, IsDecls, IsArgs, IsFormat, IsStmt}
 use Rattle.ec_small.specs.Descent.{Read, and_then, Sized, is_mark, is_word, only, past, past_some, mark, mark_if, sum, new_word, initial, initialiser, is_int, with_init, decl, decls_on, args_on, few, with_count, format_of, format, printed, print_stmt, set_stmt, variable_of, stmt}
 use Rattle.ec_small.proofs.Rules.{Rule, Stuck, Judged}

@@ -18,7 +18,7 @@ use Rattle.ec_small.specs.declared.tree.Stmt.{Stmt}
 use Rattle.ec_small.specs.declared.tree.Stmt.TheVariants.{Set, Print}
 use Rattle.ec_small.specs.declared.tree.Program.{Program}
 use Rattle.ec_small.specs.Words.{place, is_name}
-use Rattle.ec_small.specs.Lexical.{AllLexical}
+use Rattle.ec_base.specs.Lexical.{AllLexical}
 
 abbrev pub Kinds : Type 0
 Kinds = List TokenKind

@@ -1,6 +1,5 @@
 -- which tokens are a small program, and what it means
 pub mod Words
-pub mod Lexical
 pub mod Grammar
 pub mod Meaning
 pub mod Sound

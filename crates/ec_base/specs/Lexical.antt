@@ -1,8 +1,9 @@
--- Tokens that a source text can give.
-use Rattle.std.specs.Prelude.{◌≡◌, ℕ, ◌^◌, pos, negsuc, Bool, true, false, not, ◌==◌, ◌&&◌, ◌||◌, nat_lt, List, [], ◌∷◌}
+-- Tokens that a source text can give: one by one, and the tokens of a whole text.
+use Rattle.std.specs.Prelude.{◌≡◌, ◌≤◌, ◌<◌, ℕ, ◌^◌, pos, negsuc, Bool, true, false, not, ◌==◌, ◌&&◌, ◌||◌, nat_lt, List, [], ◌∷◌, length, map}
 use Rattle.std.specs.Char.{is_ascii_alphabetic, is_ascii_alphanumeric}
 use Rattle.std.specs.Int.{is_in_range}
 use Rattle.std.specs.List.{list_all}
+use Rattle.ec_base.specs.declared.token.Token.{Token}
 use Rattle.ec_base.specs.declared.token.TokenKind.{TokenKind}
 use Rattle.ec_base.specs.declared.token.TokenKind.TheVariants as t
 
@@ -35,3 +36,21 @@ is_lexical t.End = true
 -- a source text can give each of these tokens
 abbrev pub AllLexical : List TokenKind → Type 0
 AllLexical ts = list_all is_lexical ts ≡ true
+
+-- whether a token is the end of the text
+abbrev pub is_end : TokenKind → Bool
+is_end t.End = true
+is_end _ = false
+
+-- Tokens that begin at this place or later, each at or behind the end of the one before it. The last, and no other, is the
+-- end of the text, and has no bytes.
+pub data Rises : ℕ → List Token → Type 0 where
+  last : {from : ℕ} {x : Token} → is_end x.kind ≡ true → from ≤ x.at.from → x.at.to ≡ x.at.from → Rises from (x ∷ [])
+  next : {from : ℕ} {x : Token} {rest : List Token} →
+      is_end x.kind ≡ false → from ≤ x.at.from → x.at.from < x.at.to → Rises x.at.to rest → Rises from (x ∷ rest)
+
+-- tokens of a text of at most 1,048,576 bytes, in order
+pub record AreTokens (tokens : List Token) : Type 0 where
+  pub few : length tokens ≤ 1048577
+  pub rising : Rises 0 tokens
+  pub lexical : AllLexical (map (λ x. x.kind) tokens)
