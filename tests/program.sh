@@ -1,8 +1,8 @@
 #!/bin/sh
-# Runs the built program: what its words, files and streams make of it, and where it stops in a source that it doesn't
+# Runs the built program: what its words, files and streams make of it, and where it refuses a source that it doesn't
 # take. Prints a line for each case that went otherwise, and at the end how many passed.
 #
-# In the source of a case that stops, the place that has to be named stands between « and ».
+# In the source of a case that is refused, the place that has to be named stands between « and ».
 LC_ALL=C
 export LC_ALL
 
@@ -52,19 +52,31 @@ expect() {
     judge "$name" "$wanted" "$wanted_out" "$wanted_err"
 }
 
-# gives NAME OUT RESULT SOURCE: the source runs
+# gives NAME OUT RESULT SOURCE: the source is accepted, and runs
 gives() {
     printf '%s' "$4" >case.ec
+    expect "$1, checked" 0 'accepted\n' '' -- check case.ec
     expect "$1" 0 "$2" "result $3\n" -- run case.ec
 }
 
-# stops NAME SOURCE: the source is refused, at the marked place
-stops() {
-    before=${2%%«*}
-    after=${2#*«}
+# refused NAME LINE: case.ec is refused with this line, whether it is to be checked or run
+refused() {
+    expect "$1, checked" 2 '' "$2\n" -- check case.ec
+    expect "$1" 2 '' "$2\n" -- run case.ec
+}
+
+# refuses NUMBER KIND NAME SOURCE: the source is refused so, at the marked place
+refuses() {
+    before=${4%%«*}
+    after=${4#*«}
     place=${after%%»*}
     printf '%s' "$before$place${after#*»}" >case.ec
-    expect "$1" 2 '' "refused 9 at ${#before}..$((${#before} + ${#place})) NotYet\n" -- run case.ec
+    refused "$3" "refused $1 at ${#before}..$((${#before} + ${#place})) $2"
+}
+
+# stops NAME SOURCE: no program of the forms that there are goes on after the marked token
+stops() {
+    refuses 9 NotYet "$1" "$2"
 }
 
 # repeat COUNT TEXT: the text so many times
@@ -91,44 +103,56 @@ cp row.ec "$ill"
 
 for file in row.ec ./row.ec sub/row.ec "$PWD/row.ec" 'a row.ec' é.ec row row.tcx - ./- ./-x; do
     expect "run '$file'" 0 '42\n' 'result 0\n' -- run "$file"
+    expect "check '$file'" 0 'accepted\n' '' -- check "$file"
+done
+for command in run check; do
+    expect "$command, no FILE"          1 '' 'words refused\n' -- "$command"
+    expect "$command, an empty FILE"    1 '' 'words refused\n' -- "$command" ''
+    expect "$command, two FILEs"        1 '' 'words refused\n' -- "$command" row.ec row.ec
+    expect "$command, a trailing word"  1 '' 'words refused\n' -- "$command" row.ec ''
+    expect "$command, an option"        1 '' 'words refused\n' -- "$command" -x
+    expect "$command, two hyphens"      1 '' 'words refused\n' -- "$command" --
+    expect "$command, FILE in .tc"      1 '' 'words refused\n' -- "$command" row.tc
+    expect "$command, FILE in .tc, sub" 1 '' 'words refused\n' -- "$command" ./row.tc
+    expect "$command, FILE is .tc"      1 '' 'words refused\n' -- "$command" .tc
+    expect "$command, the other order"  1 '' 'words refused\n' -- row.ec "$command"
+    expect "$command, FILE not UTF-8"   1 '' 'words refused\n' -- "$command" "$ill"
+    expect "$command, third not UTF-8"  1 '' 'words refused\n' -- "$command" row.ec "$ill"
 done
 expect 'no words'           1 '' 'words refused\n' --
-expect 'no FILE'            1 '' 'words refused\n' -- run
-expect 'an empty FILE'      1 '' 'words refused\n' -- run ''
-expect 'two FILEs'          1 '' 'words refused\n' -- run row.ec row.ec
-expect 'a trailing word'    1 '' 'words refused\n' -- run row.ec ''
-expect 'an option'          1 '' 'words refused\n' -- run -x
 expect 'an option before'   1 '' 'words refused\n' -- -x row.ec
-expect 'two hyphens'        1 '' 'words refused\n' -- run --
-expect 'FILE in .tc'        1 '' 'words refused\n' -- run row.tc
-expect 'FILE in .tc, sub'   1 '' 'words refused\n' -- run ./row.tc
-expect 'FILE is .tc'        1 '' 'words refused\n' -- run .tc
-expect 'check'              1 '' 'words refused\n' -- check row.ec
 expect 'RUN'                1 '' 'words refused\n' -- RUN row.ec
 expect 'runs'               1 '' 'words refused\n' -- runs row.ec
+expect 'Check'              1 '' 'words refused\n' -- Check row.ec
+expect 'checks'             1 '' 'words refused\n' -- checks row.ec
+expect 'check and run'      1 '' 'words refused\n' -- check run row.ec
 expect 'an empty command'   1 '' 'words refused\n' -- '' row.ec
-expect 'the other order'    1 '' 'words refused\n' -- row.ec run
 expect '--help'             1 '' 'words refused\n' -- --help
 expect '--version'          1 '' 'words refused\n' -- --version
-expect 'FILE not UTF-8'     1 '' 'words refused\n' -- run "$ill"
 expect 'command not UTF-8'  1 '' 'words refused\n' -- "$ill" row.ec
-expect 'third not UTF-8'    1 '' 'words refused\n' -- run row.ec "$ill"
 
 # ---- files
 
-expect 'a missing file'     5 '' 'read fault\n' -- run none.ec
-expect 'a missing folder'   5 '' 'read fault\n' -- run none/row.ec
-expect 'a file as folder'   5 '' 'read fault\n' -- run row.ec/row.ec
-expect 'a folder'           5 '' 'read fault\n' -- run sub
-expect 'a file that fails'  5 '' 'read fault\n' -- run /proc/self/mem
-expect 'a file with no end' 2 '' 'refused 7 at 1048576..1048577 TooLong\n' -- run /dev/zero
+for command in run check; do
+    expect "$command, a missing file"     5 '' 'read fault\n' -- "$command" none.ec
+    expect "$command, a missing folder"   5 '' 'read fault\n' -- "$command" none/row.ec
+    expect "$command, a file as folder"   5 '' 'read fault\n' -- "$command" row.ec/row.ec
+    expect "$command, a folder"           5 '' 'read fault\n' -- "$command" sub
+    expect "$command, a file that fails"  5 '' 'read fault\n' -- "$command" /proc/self/mem
+    expect "$command, a file with no end" 2 '' 'refused 7 at 1048576..1048577 TooLong\n' -- "$command" /dev/zero
+done
 
-printf '%1048577s' '' >long.ec
-expect 'a byte too many'    2 '' 'refused 7 at 1048576..1048577 TooLong\n' -- run long.ec
-printf '%1048576s' '' >long.ec
-expect 'the most bytes'     2 '' 'refused 9 at 1048576..1048576 NotYet\n' -- run long.ec
+printf '%1048577s' '' >case.ec
+refused 'a byte too many' 'refused 7 at 1048576..1048577 TooLong'
+printf '$%1048576s' '' >case.ec
+refused 'a byte too many, no token' 'refused 7 at 1048576..1048577 TooLong'
+printf '%1048576s' '' >case.ec
+refused 'the most bytes' 'refused 9 at 1048576..1048576 NotYet'
+printf '%1048575s$' '' >case.ec
+refused 'the most bytes, no token' 'refused 1 at 1048575..1048576 BadByte'
 printf '%-1048576s' 'int main(){ return 8; }' >long.ec
-expect 'a long program'     0 '' 'result 8\n' -- run long.ec
+expect 'a long program'          0 '' 'result 8\n' -- run long.ec
+expect 'a long program, checked' 0 'accepted\n' '' -- check long.ec
 
 # ---- streams that fail
 
@@ -145,6 +169,16 @@ status=0; "$program" run row.ec 2>/dev/full >"$out" || status=$?;   judge 'err f
 status=0; "$program" run none.ec 2>&- >"$out" || status=$?;         judge 'err closed, no file' 6 '' ''
 status=0; "$program" 2>/dev/full >"$out" || status=$?;              judge 'err full, no words' 6 '' ''
 status=0; "$program" run row.ec <&- >"$out" 2>"$err" || status=$?;  judge 'in closed' 0 '42\n' 'result 0\n'
+
+: >"$out"
+status=0; "$program" check row.ec >&- 2>"$err" || status=$?;         judge 'check, out closed' 6 '' ''
+status=0; "$program" check row.ec >/dev/full 2>"$err" || status=$?;  judge 'check, out full' 6 '' ''
+status=0; "$program" check none.ec >&- 2>"$err" || status=$?;        judge 'check, out closed, no file' 5 '' 'read fault\n'
+: >"$err"
+status=0; "$program" check row.ec 2>&- >"$out" || status=$?;         judge 'check, err closed' 0 'accepted\n' ''
+status=0; "$program" check row.ec 2>/dev/full >"$out" || status=$?;  judge 'check, err full' 0 'accepted\n' ''
+status=0; "$program" check none.ec 2>&- >"$out" || status=$?;        judge 'check, err closed, no file' 6 '' ''
+status=0; "$program" check row.ec <&- >"$out" 2>"$err" || status=$?; judge 'check, in closed' 0 'accepted\n' ''
 
 # ---- what programs mean
 
@@ -186,33 +220,55 @@ gives 'more such lines'  '' 0 'int main(){
   #	include<a> # " /*
 #include <b
 return 0; }'
-stops 'a comment, open'  'int main(){ «/»* return 0; }'
-stops 'at the end, open' 'int main(){ return 0; } «/»*/'
-stops 'a line, define'   '«#»define X
+gives 'blanks and a <'   '' 0 '#  include<
 int main(){ return 0; }'
-stops 'a line, quote'    '«#»include "a"
+gives 'a quote behind <' '' 0 '#include <"
 int main(){ return 0; }'
-stops 'inside a line'    'int main(){ «#»include <a>
-return 0; }'
-stops 'behind a comment' '/* */ «#»include <a>
-int main(){ return 0; }'
-stops 'no token'         'int main(){ return 0 «$»; }'
+gives '/ between'        '' 0 'int main(){ return 0; } /*/*/'
 
-# at FORMAT PLACE NAME: the source that printf makes of the format is refused at the place
+refuses 3 OpenComment 'a comment, open'  'int main(){ «/* return 0; }
+»'
+refuses 3 OpenComment 'at the end, open' 'int main(){ return 0; } «/*/»'
+refuses 3 OpenComment 'two bytes'        '«/*»'
+refuses 6 HashLine    'a line, define'   '«#define X»
+int main(){ return 0; }'
+refuses 6 HashLine    'a line, quote'    '«#include "a"»
+int main(){ return 0; }'
+refuses 6 HashLine    'a line, no angle' 'int main(){
+ «# include»
+<a> return 0; }'
+refuses 6 HashLine    'a line, includes' '«#includes <a>»'
+refuses 6 HashLine    'a line, a mark'   '«#»'
+refuses 1 BadByte     'inside a line'    'int main(){ «#»include <a>
+return 0; }'
+refuses 1 BadByte     'behind a comment' '/* */ «#»include <a>
+int main(){ return 0; }'
+refuses 1 BadByte     'behind its end'   'int main(){ return 0; } /*
+*/ «#»include <a>'
+refuses 1 BadByte     'no token'         'int main(){ return 0 «$»; }'
+refuses 1 BadByte     'a quote'          "int main(){ return «'»a'; }"
+refuses 1 BadByte     'a backslash'      'int main(){ «\» }'
+refuses 1 BadByte     'the first of two' 'int main(){ «$» /* }'
+
+# at NUMBER KIND PLACE NAME FORMAT: the source that printf makes of the format is refused at the place
 at() {
     # shellcheck disable=SC2059
-    printf "$1" >case.ec
-    expect "$3" 2 '' "refused 9 at $2 NotYet\n" -- run case.ec
+    printf "$5" >case.ec
+    refused "$4" "refused $1 at $3 $2"
 }
-at ''                               0..0   'the empty file'
-at ' \n'                            2..2   'nothing but blanks'
-at '\357\273\277int main(){ }'      0..1   'a byte order mark'
-at 'int main(){ \000 return 0; }'   12..13 'a zero byte'
-at 'int main(){ \014 return 0; }'   12..13 'a form feed'
-at 'int main(){ int \303\251; }'    16..17 'a letter beyond ASCII'
-at 'int main(){ printf("a\177"); }' 21..22 'a delete in a string'
-at 'int main(){ printf("a\tb"); }'  21..22 'a tab in a string'
-at 'int main(){ printf("a\tb); }'   19..20 'a tab in an open string'
+at 9 NotYet  0..0   'the empty file'          ''
+at 9 NotYet  2..2   'nothing but blanks'      ' \n'
+at 1 BadByte 0..1   'a byte order mark'       '\357\273\277int main(){ }'
+at 1 BadByte 12..13 'a zero byte'             'int main(){ \000 return 0; }'
+at 1 BadByte 12..13 'a form feed'             'int main(){ \014 return 0; }'
+at 1 BadByte 16..17 'a letter beyond ASCII'   'int main(){ int \303\251; }'
+at 1 BadByte 21..22 'a delete in a string'    'int main(){ printf("a\177"); }'
+at 1 BadByte 21..22 'a tab in a string'       'int main(){ printf("a\tb"); }'
+at 1 BadByte 21..22 'a CR in a string'        'int main(){ printf("a\r"); }'
+at 4 OpenString 19..27 'a tab in an open string' 'int main(){ printf("a\tb); }'
+at 5 BadEscape 21..23 'an escaped tab'        'int main(){ printf("a\\\tb"); }'
+at 5 BadEscape 21..23 'an escaped zero byte'  'int main(){ printf("a\\\000"); }'
+at 5 BadEscape 21..23 'an escaped delete'     'int main(){ printf("a\\\177"); }'
 
 # ---- the first token after which no program goes on
 
@@ -239,8 +295,8 @@ stops 'no last brace'      'int main(){ return 0;«»'
 stops 'behind the brace'   'int main(){ return 0; } «x»'
 stops 'one brace more'     'int main(){ return 0; } «}»'
 stops 'two programs'       'int main(){ return 0; } «int» main(){ return 0; }'
-stops 'the first of two'   'int main(){ «while» (1) $; return 0; }'
-stops 'an open comment'    'int main(){ «/»* while (1) ; return 0; }'
+refuses 1 BadByte 'a later byte' 'int main(){ while (1) «$»; return 0; }'
+refuses 3 OpenComment 'a later comment' 'int main(){ while (1) ; «/* return 0; }»'
 
 stops 'two declarators'    'int main(){ int a«,» b; return 0; }'
 stops 'a pointer'          'int main(){ int «*»p; return 0; }'
@@ -287,12 +343,20 @@ stops 'NULL'               'int main(){ return «NULL»; }'
 
 # ---- strings
 
-stops 'an open string'     'int main(){ printf(«"»abc); return 0; }'
-stops 'a string, broken'   'int main(){ printf(«"»abc
+refuses 4 OpenString 'an open string'     'int main(){ printf(«"abc); return 0; }»'
+refuses 4 OpenString 'a string, broken'   'int main(){ printf(«"abc»
 "); return 0; }'
-stops 'a string, escaped'  'int main(){ printf(«"»abc\"); return 0; }'
-stops 'a bad escape'       'int main(){ printf("a«\»q"); return 0; }'
-stops 'a bad escape, zero' 'int main(){ printf("%x«\»0"); return 0; }'
+refuses 4 OpenString 'a string, escaped'  'int main(){ printf(«"abc\"); return 0; }»'
+refuses 4 OpenString 'an escaped line'    'int main(){ printf(«"abc\»
+"); return 0; }'
+refuses 4 OpenString 'a backslash at last' 'int main(){ printf(«"abc\»'
+refuses 4 OpenString 'a bad escape, open' 'int main(){ printf(«"a\q); return 0; }»'
+refuses 4 OpenString 'a quote alone'      'int main(){ return 0; } «"»'
+refuses 5 BadEscape  'a bad escape'       'int main(){ printf("a«\q»"); return 0; }'
+refuses 5 BadEscape  'a bad escape, zero' 'int main(){ printf("%x«\0»"); return 0; }'
+refuses 5 BadEscape  'the first of both'  'int main(){ printf("\n«\a»\b"); return 0; }'
+gives 'a backslash before the quote' "a\\\\" 0 'int main(){ printf("a\\"); return 0; }'
+gives 'a quote, escaped'             'a"' 0 'int main(){ printf("a\""); return 0; }'
 stops 'as %x'              'int main(){ printf(«"%x"», 1); return 0; }'
 stops 'as %5d'             'int main(){ printf(«"%5d"», 1); return 0; }'
 stops 'as %l'              'int main(){ printf(«"%l"», 1); return 0; }'
@@ -306,12 +370,15 @@ stops 'an empty argument'  'int main(){ printf("%d", «)»; return 0; }'
 
 # ---- numbers and names
 
-stops 'one past the most'  'int main(){ return «9»223372036854775808; }'
-stops 'far past the most'  'int main(){ return «1»00000000000000000000000; }'
-stops 'needless zeros'     'int main(){ return «0»07; }'
-stops 'two zeros'          'int main(){ return «0»0; }'
-stops 'sixteens'           'int main(){ return «0»x10; }'
-stops 'a suffix'           'int main(){ return «1»L; }'
+gives 'zero'               '' 0 'int main(){ return 0; }'
+refuses 2 BadNumber 'one past the most' 'int main(){ return «9223372036854775808»; }'
+refuses 2 BadNumber 'far past the most' 'int main(){ return «100000000000000000000000»; }'
+refuses 2 BadNumber 'needless zeros'    'int main(){ return «007»; }'
+refuses 2 BadNumber 'two zeros'         'int main(){ return «00»; }'
+refuses 2 BadNumber 'sixteens'          'int main(){ return «0x10»; }'
+refuses 2 BadNumber 'a suffix'          'int main(){ return «1L»; }'
+refuses 2 BadNumber 'a letter behind'   'int main(){ int «1x»; return 0; }'
+refuses 2 BadNumber 'a line behind'     'int main(){ return «1_»; }'
 for word in int void struct if else while for forall return local shared malloc sizeof printf NULL writeto addto valueof \
     OWNER_OF HOME NODE ANYWHERE; do
     stops "the name $word" "int main(){ int «$word»; return 0; }"
@@ -378,27 +445,45 @@ stops 'nine arguments'     'int main(){ printf(«"%d%d%d%d%d%d%d%d%d"», 1, 2, 3
 
 # ---- every beginning of a program is refused, somewhere in it
 
-# begins COUNT: the first so many bytes of whole.ec
-begins() {
-    head -c "$1" whole.ec >case.ec
-    status=0
-    "$program" run case.ec >"$out" 2>"$err" </dev/null || status=$?
-    line=$(cat "$err")
-    from=${line#refused 9 at }
-    from=${from%%..*}
-    to=${line##*..}
-    to=${to%% *}
-    place="a place in 0..$1"
-    case $from-$to in
-        -* | *- | *[!0-9-]*) ;;
-        *) [ "$from" -le "$to" ] && [ "$to" -le "$1" ] && place=$from..$to ;;
-    esac
-    judge "the first $1 bytes" 2 '' "refused 9 at $place NotYet\n"
-}
-
 printf '%s' '#include <a>
 int main(void){ int x = 20; /* c */ int y; // d
 x = (x - 1) * 3; printf("%d\t%% %ld\n", x, 0 - y); return x; }' >whole.ec
+whole=$(cat whole.ec)
+include='#include <'
+comment=${whole%%/\**} comment_end=${whole%%\*/*}
+string=${whole%%\"*} string_end=${whole%\"*}
+
+# inside COUNT FROM BEFORE_LAST: whether so many bytes end in what begins after FROM bytes and ends before its last byte
+inside() {
+    [ "$1" -gt "$2" ] && [ "$1" -le "$3" ]
+}
+
+# begins COUNT: the first so many bytes of whole.ec are refused, in what they leave open, or where no program goes on
+begins() {
+    head -c "$1" whole.ec >case.ec
+    if inside "$1" 0 $((${#include} - 1)); then
+        refused "the first $1 bytes" "refused 6 at 0..$1 HashLine"
+    elif inside "$1" $((${#comment} + 1)) $((${#comment_end} + 1)); then
+        refused "the first $1 bytes" "refused 3 at ${#comment}..$1 OpenComment"
+    elif inside "$1" ${#string} ${#string_end}; then
+        refused "the first $1 bytes" "refused 4 at ${#string}..$1 OpenString"
+    else
+        status=0
+        "$program" run case.ec >"$out" 2>"$err" </dev/null || status=$?
+        line=$(cat "$err")
+        from=${line#refused 9 at }
+        from=${from%%..*}
+        to=${line##*..}
+        to=${to%% *}
+        place="a place in 0..$1"
+        case $from-$to in
+            -* | *- | *[!0-9-]*) ;;
+            *) [ "$from" -le "$to" ] && [ "$to" -le "$1" ] && place=$from..$to ;;
+        esac
+        judge "the first $1 bytes" 2 '' "refused 9 at $place NotYet\n"
+    fi
+}
+
 expect 'the whole of it' 0 '57\t% 0\n' 'result 57\n' -- run whole.ec
 count=$(wc -c <whole.ec)
 while [ "$count" -gt 0 ]; do
@@ -409,6 +494,17 @@ done
 # ---- examples
 
 expect 'answer.ec' 0 '42\n' 'result 0\n' -- run "$top/examples/answer.ec"
+expect 'answer.ec, checked' 0 'accepted\n' '' -- check "$top/examples/answer.ec"
+
+# ---- the launcher's own words
+
+status=0; "$top/earthc" --help >page 2>"$err" </dev/null || status=$?
+head -n 1 page >"$out"
+judge 'the page of help' 0 'usage: earthc COMMAND FILE\n' ''
+for word in BadByte BadNumber OpenComment OpenString BadEscape HashLine TooLong NotYet accepted 'words refused'; do
+    grep -F -o -- "$word" page | head -n 1 >"$out"
+    judge "help on $word" 0 "$word\n" ''
+done
 
 echo "$passed passed, $failed failed"
 [ "$failed" = 0 ]

@@ -1,9 +1,8 @@
 -- The report of a file whose program isn't run.
-use Rattle.std.proofs.Common.{◌≡◌, ◌⊎◌, inl, inr, ℕ, List, [], ◌∷◌, ◌++◌, refl, ap, sym, ◌∙◌, subst, append-nil, Option, Some, None, IsSome, is_some, pos}
+use Rattle.std.proofs.Common.{◌≡◌, inl, inr, ℕ, List, [], refl, ap, sym, ◌∙◌, subst, append-nil, Option, Some, None, is_some, pos}
 use Rattle.ec_core.specs.declared.choice.Run.{Run}
+use Rattle.ec_lex.specs.Tokens.{TextsHaveOneCut}
 use Rattle.ec_small.specs.declared.tree.Program.{Program}
-use Rattle.ec_driver.specs.declared.command.Command.{Command}
-use Rattle.ec_driver.specs.declared.command.Command.TheVariants.{Run as RunCommand}
 use Rattle.ec_driver.specs.declared.command.RunWords.{RunWords}
 use Rattle.ec_driver.specs.declared.status.Refusal.{Refusal}
 use Rattle.ec_driver.specs.declared.status.Report.{Report}
@@ -11,24 +10,21 @@ use Rattle.ec_driver.specs.declared.status.Status.{Status}
 use Rattle.ec_driver.specs.declared.status.Status.TheVariants.{Done, WordsRefused, SourceRefused, StepsSpent, ReadFault, WriteFault, NoMemory}
 use Rattle.ec_driver.specs.Lines.{line_of}
 use Rattle.ec_edge.specs.Edge.{Rose}
-use Rattle.ec_core.specs.declared.code.Code.{Code}
-use Rattle.ec_core.specs.declared.node.Node.{Node}
-use Rattle.ec_driver.specs.Kept.{IsLast}
-use Rattle.ec_driver.specs.Report.{HasLast, HasRun, IsBare, IsOrFails, IsOrUnread, IsPlain, IsReport, IsUnrun, Keeps, RunsOrFails}
-use Rattle.ec_driver.specs.Said.{Grew, IsUntouched, Says, Stream, said_status, stream}
+use Rattle.ec_driver.specs.Report.{HasRun, IsBare, IsOrFails, IsOrUnread, IsPlain, IsReport, IsUnrun, RunsOrFails}
+use Rattle.ec_driver.specs.Said.{Grew, Says, said_status, stream}
 use Rattle.ec_driver.specs.Source.{Accepts, IsRefused, Rejects, Unread}
 use Rattle.ec_driver.proofs.Unique.{not_both, same_refusal}
 
-module _ (content : Option (List ℕ)) (rose : Type 0) where
+module _ (one : TextsHaveOneCut) (content : Option (List ℕ)) (rose : Type 0) where
   -- a refusal that is told is the content's
-  told_refusal : (s t : Status) (q : Refusal) → Unread content rose s → IsOrFails s t → t ≡ SourceRefused q → IsRefused content q
+  pub told_refusal : (s t : Status) (q : Refusal) → Unread content rose s → IsOrFails s t → t ≡ SourceRefused q → IsRefused content q
   told_refusal s t q u (inl e) h = subst (Unread content rose) (sym e ∙ h) u
   told_refusal s t q u (inr (inl e)) h = let clash : WriteFault ≡ SourceRefused q = sym e ∙ h in cc
   told_refusal s t q u (inr (inr e)) h = let clash : NoMemory ≡ SourceRefused q = sym e ∙ h in cc
 
-  refused : (s t : Status) (b : List ℕ) (q : Refusal) → content ≡ Some b → Rejects b q → Unread content rose s → IsOrFails s t → IsOrUnread (SourceRefused q) t
+  pub refused : (s t : Status) (b : List ℕ) (q : Refusal) → content ≡ Some b → Rejects b q → Unread content rose s → IsOrFails s t → IsOrUnread (SourceRefused q) t
   refused s t b q h r u (inr f) = inr (inr f)
-  refused (SourceRefused p) t b q h r u (inl e) = inr (inl (e ∙ ap SourceRefused (same_refusal b p q (subst (λ z. Rejects z p) (sym (u.1 b h)) u.2) r)))
+  refused (SourceRefused p) t b q h r u (inl e) = inr (inl (e ∙ ap SourceRefused (same_refusal one b p q (subst (λ z. Rejects z p) (sym (u.1 b h)) u.2) r)))
   refused ReadFault t b q h r u (inl e) = inl e
   refused NoMemory t b q h r u (inl e) = inr (inr (inr e))
   refused Done t b q h r u (inl e) = absurd u
@@ -36,9 +32,9 @@ module _ (content : Option (List ℕ)) (rose : Type 0) where
   refused StepsSpent t b q h r u (inl e) = absurd u
   refused WriteFault t b q h r u (inl e) = absurd u
 
-  accepted : (s t : Status) (b : List ℕ) (p : Program) → content ≡ Some b → Accepts b p → Unread content rose s → IsOrFails s t → RunsOrFails t
+  pub accepted : (s t : Status) (b : List ℕ) (p : Program) → content ≡ Some b → Accepts b p → Unread content rose s → IsOrFails s t → RunsOrFails t
   accepted s t b p h a u (inr f) = inr (inr f)
-  accepted (SourceRefused r) t b p h a u (inl e) = absurd (not_both b p r a (subst (λ z. Rejects z r) (sym (u.1 b h)) u.2))
+  accepted (SourceRefused r) t b p h a u (inl e) = absurd (not_both one b p r a (subst (λ z. Rejects z r) (sym (u.1 b h)) u.2))
   accepted ReadFault t b p h a u (inl e) = inl e
   accepted NoMemory t b p h a u (inl e) = inr (inr (inr e))
   accepted Done t b p h a u (inl e) = absurd u
@@ -47,17 +43,17 @@ module _ (content : Option (List ℕ)) (rose : Type 0) where
   accepted WriteFault t b p h a u (inl e) = absurd u
 
   -- a status that an unread file can't have
-  never : (s t other : Status) → (Unread content rose other → ⊥) → (WriteFault ≡ other → ⊥) → (NoMemory ≡ other → ⊥) → Unread content rose s → IsOrFails s t → t ≡ other → ⊥
+  pub never : (s t other : Status) → (Unread content rose other → ⊥) → (WriteFault ≡ other → ⊥) → (NoMemory ≡ other → ⊥) → Unread content rose s → IsOrFails s t → t ≡ other → ⊥
   never s t other no_file no_write no_memory u (inl e) h = no_file (subst (Unread content rose) (sym e ∙ h) u)
   never s t other no_file no_write no_memory u (inr (inl e)) h = no_write (sym e ∙ h)
   never s t other no_file no_write no_memory u (inr (inr e)) h = no_memory (sym e ∙ h)
 
-  unread : (s t : Status) → Unread content rose s → IsOrFails s t → t ≡ ReadFault → rose
+  pub unread : (s t : Status) → Unread content rose s → IsOrFails s t → t ≡ ReadFault → rose
   unread s t u (inl e) h = subst (Unread content rose) (sym e ∙ h) u
   unread s t u (inr (inl e)) h = let clash : WriteFault ≡ ReadFault = sym e ∙ h in cc
   unread s t u (inr (inr e)) h = let clash : NoMemory ≡ ReadFault = sym e ∙ h in cc
 
-  no_run : (s t : Status) → Unread content rose s → IsOrFails s t → HasRun t → ⊥
+  pub no_run : (s t : Status) → Unread content rose s → IsOrFails s t → HasRun t → ⊥
   no_run s t u f (inl h) = never s t Done (λ v. v) (λ e. cc) (λ e. cc) u f h
   no_run s t u f (inr h) = never s t StepsSpent (λ v. v) (λ e. cc) (λ e. cc) u f h
 
@@ -73,7 +69,7 @@ plain_unrun ReadFault h = tt
 plain_unrun WriteFault h = absurd h
 plain_unrun NoMemory h = absurd h
 
-grew_nothing : (o : Option (List ℕ)) → Grew o o []
+pub grew_nothing : (o : Option (List ℕ)) → Grew o o []
 grew_nothing o w e = e ∙ ap Some (sym (append-nil w))
 
 -- what a report without a run says, where nothing was put to the output
@@ -82,17 +78,17 @@ pub says_bare : (o e f : Option (List ℕ)) (k m n : ℕ) (t : Status) → (IsPl
 says_bare o e f k m n t said quiet h =
     record { pieces = grew_nothing o; line = said (plain_unrun t h); out_faults = refl; err_faults = quiet (plain_unrun t h) }
 
-pub bare_report : (content : Option (List ℕ)) (before after : ℕ) (o e f : Option (List ℕ)) (k m n : ℕ) (c : RunWords) (s : Status) (r : Report) → Unread content (Rose before after) s →
+pub bare_report : TextsHaveOneCut → (content : Option (List ℕ)) (before after : ℕ) (o e f : Option (List ℕ)) (k m n : ℕ) (c : RunWords) (s : Status) (r : Report) → Unread content (Rose before after) s →
     IsOrFails s r.status → (IsPlain r.status → Grew e f (line_of r.status (pos 0))) → (IsPlain r.status → n ≡ m) → (r.status ≡ WriteFault → Rose m n) → IsBare r →
     IsReport content before after (stream o o k k) (stream e f m n) c r
-bare_report content before after o e f k m n c s r u status said quiet write bare = record {
-  refused_only = λ q is. told_refusal content (Rose before after) s r.status q u status is;
-  refused = λ b h q rejects. refused content (Rose before after) s r.status b q h rejects u status;
-  accepted = λ b h p accepts. accepted content (Rose before after) s r.status b p h accepts u status;
-  not_words = never content (Rose before after) s r.status WordsRefused (λ v. v) (λ c. cc) (λ c. cc) u status;
-  read = unread content (Rose before after) s r.status u status;
+bare_report one content before after o e f k m n c s r u status said quiet write bare = record {
+  refused_only = λ q is. told_refusal one content (Rose before after) s r.status q u status is;
+  refused = λ b h q rejects. refused one content (Rose before after) s r.status b q h rejects u status;
+  accepted = λ b h p accepts. accepted one content (Rose before after) s r.status b p h accepts u status;
+  not_words = never one content (Rose before after) s r.status WordsRefused (λ v. v) (λ c. cc) (λ c. cc) u status;
+  read = unread one content (Rose before after) s r.status u status;
   write = λ h. inr (write h);
-  kept = λ h. absurd (no_run content (Rose before after) s r.status u status h);
+  kept = λ h. absurd (no_run one content (Rose before after) s r.status u status h);
   kept_unsaid = λ h no_fault. absurd (no_fault (write h));
   both = ap is_some bare.run ∙ sym (ap is_some bare.code);
   bare = λ h. bare;
@@ -101,7 +97,3 @@ bare_report content before after o e f k m n c s r u status said quiet write bar
   last = λ q is. absurd (no_run_kept r q bare is);
   keeps = λ code q w l. absurd (no_run_kept r q bare l.run_is);
 }
-
--- each command runs a program
-pub run_words : (c : Command) → (r : RunWords) × (c ≡ RunCommand r)
-run_words (RunCommand r) = (r, refl)

@@ -1,8 +1,7 @@
 -- A run that the loop made is kept, said and reported as promised.
-use Rattle.std.proofs.Common.{◌≡◌, ◌≤◌, ◌<◌, ◌⊎◌, inl, inr, ℕ, zero, suc, List, [], ◌∷◌, ◌++◌, refl, ap, sym, ◌∙◌, subst, append-nil, Bool, true, false, nat_lt, Option, Some, None, IsSome, is_some, slice_get, arith}
+use Rattle.std.proofs.Common.{◌≡◌, ◌<◌, ◌⊎◌, inl, inr, ℕ, zero, suc, List, [], ◌∷◌, refl, ap, sym, ◌∙◌, subst, append-nil, true, false, nat_lt, Option, Some, slice_get, arith}
 use Rattle.std.proofs.lemmas.Bool.Decides.{nat_tests}
 use Rattle.ec_core.specs.declared.choice.Run.{Run}
-use Rattle.ec_core.specs.declared.choice.Choice.{Choice}
 use Rattle.ec_core.specs.declared.code.Code.{Code}
 use Rattle.ec_core.specs.declared.node.Node.{Node}
 use Rattle.ec_core.specs.Run.{run, start, filled_in, HasEnded, output, result}
@@ -17,10 +16,10 @@ use Rattle.ec_driver.specs.declared.command.RunWords.{RunWords}
 use Rattle.ec_driver.specs.declared.drive.Progress.{Progress}
 use Rattle.ec_driver.specs.declared.status.Report.{Report}
 use Rattle.ec_driver.specs.declared.status.Status.{Status}
-use Rattle.ec_driver.specs.declared.status.Status.TheVariants.{Done, StepsSpent, WriteFault, NoMemory}
+use Rattle.ec_driver.specs.declared.status.Status.TheVariants.{Done, StepsSpent, WriteFault}
 use Rattle.ec_driver.specs.Command.{run_of}
 use Rattle.ec_driver.specs.Drive.{IsProgress, IsStopped}
-use Rattle.ec_driver.specs.Kept.{IsCodeOf, IsLast, IsSpent, IsWithin, choices, steps_of}
+use Rattle.ec_driver.specs.Kept.{IsLast, IsSpent, IsWithin, choices}
 use Rattle.ec_driver.specs.Lines.{line_of}
 use Rattle.ec_driver.specs.Report.{HasRun, IsPlain, Keeps, RunsOrStops, SaysLast}
 use Rattle.ec_driver.specs.Said.{Grew, Says, Stream, joined, pieces_of, said_of, said_world}

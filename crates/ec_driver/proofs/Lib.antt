@@ -6,3 +6,5 @@ pub mod Keeping
 pub mod Unique
 pub mod Reports
 pub mod Bare
+pub mod Checked
+pub mod Ends

@@ -1,5 +1,5 @@
 -- A file that is too long, whether its content is told or not.
-use Rattle.std.proofs.Common.{◌≡◌, ◌<◌, ◌⊎◌, inl, inr, ℕ, suc, List, length, replicate, refl, Option, Some, None, arith}
+use Rattle.std.proofs.Common.{◌≡◌, ◌<◌, inl, ℕ, suc, List, length, replicate, refl, Option, Some, None, arith}
 use Rattle.std.proofs.lemmas.List.{length-replicate}
 use Rattle.ec_driver.specs.Lines.{too_long}
 use Rattle.ec_driver.specs.Source.{IsContent, IsRefused}

@@ -1,5 +1,5 @@
 -- Words that are two.
-use Rattle.std.proofs.Common.{◌≡◌, ◌≤◌, ◌<◌, ℕ, List, [], ◌∷◌, length, get_or, ap, sym, ◌∙◌, refl, arith}
+use Rattle.std.proofs.Common.{◌≡◌, ◌≤◌, ◌<◌, ℕ, List, [], ◌∷◌, length, get_or, ap, sym, ◌∙◌, arith}
 use Rattle.ec_driver.specs.Command.{told_command, told_pair}
 
 pub told_two : (words : List (List ℕ)) (name file : List ℕ) → 2 ≤ length words → length words < 3 → name ≡ get_or words 0 name → file ≡ get_or words 1 file → told_command words ≡ told_pair name file

@@ -1,9 +1,7 @@
 -- The steps of each unit, where all choices are node 0's.
-use Rattle.std.proofs.Common.{◌≡◌, ◌≤◌, ◌+◌, ◌*◌, ◌==◌, ℕ, zero, suc, Bool, true, false, not, cond, List, [], ◌∷◌, refl, ap, sym, ◌∙◌, subst, arith, count_by, eqb}
-use Rattle.std.specs.List.{sum_by}
+use Rattle.std.proofs.Common.{◌≡◌, ◌≤◌, ◌+◌, ◌*◌, ◌==◌, ℕ, zero, suc, Bool, true, false, not, cond, List, [], ◌∷◌, refl, ap, ◌∙◌, arith, count_by}
 use Rattle.std.proofs.lemmas.List.Sums.{sum_by-cons}
 use Rattle.std.proofs.lemmas.Bool.Decides.{nat_tests}
-use Rattle.ec_core.specs.declared.choice.Choice.{Choice}
 use Rattle.ec_core.specs.declared.choice.Stamped.{Stamped}
 use Rattle.ec_driver.specs.Drive.{AreOwn, eu_steps, su_steps}
 use Rattle.ec_driver.specs.Kept.{is_eu, steps_of, unit_of}

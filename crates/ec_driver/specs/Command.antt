@@ -1,9 +1,9 @@
 -- Which words are a command.
-use Rattle.std.specs.Prelude.{◌≡◌, ℕ, ◌==◌, ◌&&◌, not, nat_lt, Bool, true, false, if◌then◌else◌, List, [], ◌∷◌, length, codes, slice_index, Option, Some, None, Result, Ok, Err, nat_eq}
+use Rattle.std.specs.Prelude.{◌≡◌, ℕ, ◌==◌, ◌&&◌, not, nat_lt, Bool, false, if◌then◌else◌, List, [], ◌∷◌, length, codes, slice_index, None, Result, Ok, Err, nat_eq}
 use Rattle.std.specs.List.{ends_with}
 use Rattle.std.specs.Cmp.Lexicographic.{pointwise}
 use Rattle.ec_driver.specs.declared.command.Command.{Command}
-use Rattle.ec_driver.specs.declared.command.Command.TheVariants.{Run}
+use Rattle.ec_driver.specs.declared.command.Command.TheVariants.{Check, Run}
 use Rattle.ec_driver.specs.declared.command.RunWords.{RunWords}
 use Rattle.ec_driver.specs.declared.command.WordsRefusal.{WordsRefusal}
 
@@ -22,9 +22,14 @@ is_file w = nat_lt 0 (length w) && not (is_option w) && not (ends_with nat_eq w 
 abbrev pub run_of : List ℕ → RunWords
 run_of file = record { file = file; args = []; nodes = 1; steps = 1048576; memory = false; journal = None }
 
+-- the command of this name for a file
+abbrev pub told_name : List ℕ → List ℕ → Result Command WordsRefusal
+told_name name file =
+    if same name (codes "check") then Ok (Check file) else (if same name (codes "run") then Ok (Run (run_of file)) else Err (record {}))
+
 -- the command of two words
 abbrev pub told_pair : List ℕ → List ℕ → Result Command WordsRefusal
-told_pair name file = if same name (codes "run") && is_file file then Ok (Run (run_of file)) else Err (record {})
+told_pair name file = if is_file file then told_name name file else Err (record {})
 
 -- the command that the words are
 abbrev pub told_command : List (List ℕ) → Result Command WordsRefusal
@@ -37,6 +42,14 @@ told_command (r ∷ file ∷ x ∷ rest) = Err (record {})
 abbrev pub IsNoCommand : List (List ℕ) → Type 0
 IsNoCommand words = told_command words ≡ Err (record {})
 
+-- the words are this command
+abbrev pub IsCommand : List (List ℕ) → Command → Type 0
+IsCommand words c = told_command words ≡ Ok c
+
+-- the words are `check` with this file
+abbrev pub IsCheck : List (List ℕ) → List ℕ → Type 0
+IsCheck words file = told_command words ≡ Ok (Check file)
+
 -- the words are `run` with these words of its own
 abbrev pub IsRun : List (List ℕ) → RunWords → Type 0
 IsRun words r = told_command words ≡ Ok (Run r)
@@ -44,3 +57,17 @@ IsRun words r = told_command words ≡ Ok (Run r)
 -- some words give this command
 abbrev pub IsGiven : Command → Type 0
 IsGiven c = (words : List (List ℕ)) × (told_command words ≡ Ok c)
+
+-- the file that a command reads
+abbrev pub file_of : Command → List ℕ
+file_of (Check file) = file
+file_of (Run r) = r.file
+
+-- a command that runs a program, and one that doesn't
+abbrev pub ForThreaded : Command → Type 0
+ForThreaded (Check file) = ⊥
+ForThreaded (Run r) = Unit {0}
+
+abbrev pub ForPlain : Command → Type 0
+ForPlain (Check file) = Unit {0}
+ForPlain (Run r) = ⊥

@@ -1,5 +1,5 @@
 -- What the loop keeps from turn to turn.
-use Rattle.std.specs.Prelude.{◌≡◌, ◌⊎◌, ℕ, ◌+◌, ◌≤◌, ◌<◌, Bool, true, false, if◌then◌else◌, not, count_by, List, [], ◌∷◌, ◌++◌, length, Option, Some, None}
+use Rattle.std.specs.Prelude.{◌≡◌, ◌⊎◌, ℕ, ◌+◌, ◌≤◌, ◌<◌, true, false, if◌then◌else◌, not, count_by, List, [], ◌∷◌, ◌++◌, length, Option, Some, None}
 use Rattle.ec_core.specs.declared.choice.Act.{Act}
 use Rattle.ec_core.specs.declared.choice.Choice.{Choice}
 use Rattle.ec_core.specs.declared.choice.Stamped.{Stamped}

@@ -1,7 +1,8 @@
 -- What is said of how a command ends.
-use Rattle.std.specs.Prelude.{ℕ, ◌==◌, if◌then◌else◌, List, [], ◌∷◌, ◌++◌, codes, Option, Some, None, ℤ}
+use Rattle.std.specs.Prelude.{ℕ, ◌==◌, if◌then◌else◌, List, [], ◌++◌, codes, None, ℤ}
 use Rattle.std.specs.Fmt.{decimal, signed_decimal}
 use Rattle.ec_base.specs.declared.token.Span.{Span}
+use Rattle.ec_lex.specs.declared.fault.LexRefusal.{LexRefusal}
 use Rattle.ec_driver.specs.declared.status.Refusal.{Refusal}
 use Rattle.ec_driver.specs.declared.status.Status.{Status}
 use Rattle.ec_driver.specs.declared.status.Status.TheVariants.{Done, WordsRefused, SourceRefused, StepsSpent, ReadFault, WriteFault, NoMemory}
@@ -20,7 +21,10 @@ number_of NoMemory = 7
 abbrev pub place : Span → List ℕ
 place at = decimal at.from ++ codes ".." ++ decimal at.to
 
--- the two refusals that there are: a text that is too long, and a form that isn't built yet
+-- the refusals that there are: a fault at which there is no token, a text that is too long, and a form that isn't built yet
+abbrev pub not_token : LexRefusal → Refusal
+not_token r = record { what = r.what; at = r.at; other = None }
+
 abbrev pub too_long : Refusal
 too_long = record { what = 7; at = record { from = 1048576; to = 1048577 }; other = None }
 
@@ -29,7 +33,15 @@ not_yet at = record { what = 9; at = at; other = None }
 
 -- the name of a refusal by its number
 abbrev pub name_of : ℕ → List ℕ
-name_of n = if n == 7 then codes "TooLong" else codes "NotYet"
+name_of n =
+    if n == 1 then codes "BadByte"
+    else (if n == 2 then codes "BadNumber"
+    else (if n == 3 then codes "OpenComment"
+    else (if n == 4 then codes "OpenString"
+    else (if n == 5 then codes "BadEscape"
+    else (if n == 6 then codes "HashLine"
+    else (if n == 7 then codes "TooLong"
+    else codes "NotYet"))))))
 
 abbrev pub result_line : ℤ → List ℕ
 result_line n = codes "result " ++ signed_decimal n ++ codes "\n"

@@ -12,8 +12,8 @@ use Rattle.ec_driver.specs.declared.status.Refusal.{Refusal}
 use Rattle.ec_driver.specs.declared.status.Report.{Report}
 use Rattle.ec_driver.specs.declared.status.Status.{Status}
 use Rattle.ec_driver.specs.declared.status.Status.TheVariants.{Done, WordsRefused, SourceRefused, StepsSpent, ReadFault, WriteFault, NoMemory}
-use Rattle.ec_driver.specs.Source.{Accepts, IsRefused, Rejects}
-use Rattle.ec_driver.specs.Said.{IsUntouched, Says, Stream, said_status, said_world}
+use Rattle.ec_driver.specs.Source.{Accepts, IsAccepted, IsRefused, Rejects}
+use Rattle.ec_driver.specs.Said.{IsUntouched, Says, Stream, said_accepted, said_status, said_world}
 use Rattle.ec_driver.specs.Kept.{IsCodeOf, IsLast, IsSpent, IsWithin}
 
 -- ---- kinds of statuses
@@ -103,3 +103,18 @@ pub record IsReport (content : Option (List ℕ)) (faults_old faults_new : ℕ) 
   pub says : IsUnrun x.status → Says out err (said_status x.status)
   pub last : (r : Run) → x.run ≡ Some r → HasLast c x r
   pub keeps : (code : Code) (r : Run) (w : List Node) → IsLast c x code r w → Keeps content c out err x.status code r w
+
+-- the report of a check of a file with this content
+pub record IsChecked (content : Option (List ℕ)) (faults_old faults_new : ℕ) (out err : Stream) (x : Report) : Type 0 where
+  pub refused_only : (r : Refusal) → x.status ≡ SourceRefused r → IsRefused content r
+  pub refused : (b : List ℕ) → content ≡ Some b → (r : Refusal) → Rejects b r → IsOrUnread (SourceRefused r) x.status
+  pub accepted_only : x.status ≡ Done → IsAccepted content
+  pub accepted : (b : List ℕ) → content ≡ Some b → (p : Program) → Accepts b p → IsOrUnread Done x.status
+  pub not_words : x.status ≡ WordsRefused → ⊥
+  pub not_spent : x.status ≡ StepsSpent → ⊥
+  pub read : x.status ≡ ReadFault → Rose faults_old faults_new
+  pub write : x.status ≡ WriteFault → Rose out.faults_old out.faults_new ⊎ Rose err.faults_old err.faults_new
+  pub bare : IsBare x
+  pub says : IsUnrun x.status → Says out err (said_status x.status)
+  pub says_accepted : x.status ≡ Done → Says out err said_accepted
+  pub unsaid : x.status ≡ NoMemory → IsUntouched out

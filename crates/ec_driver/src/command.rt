@@ -9,6 +9,8 @@ use std::alloc::{AllocError, Global};
 /// A command that the words give.
 #[derive(Drop)]
 pub enum Command {
+    /// Says whether the source of this file is accepted.
+    Check(Text),
     Run(RunWords),
 }
 
@@ -58,7 +60,13 @@ pub(crate) fn read_words(alloc: Global, words: &[Text]) -> Result<Command, Fail<
 fn read_pair(alloc: Global, name: &Text, file: &Text) -> Result<Command, Fail<WordsRefusal>>
     ensures { Answers result (told_pair name.now file.now) }
 {
-    if name.as_slice() == b"run".as_slice() && is_file(file) {
+    if !is_file(file) {
+        return Err(Fail::Refused(WordsRefusal));
+    }
+    let name = name.as_slice();
+    if name == b"check".as_slice() {
+        Ok(Command::Check(file.copy(alloc)?))
+    } else if name == b"run".as_slice() {
         Ok(Command::Run(run_of(alloc, file)?))
     } else {
         Err(Fail::Refused(WordsRefusal))

@@ -1,7 +1,8 @@
-//! The top call: from command words to output, result and report.
+//! The top call: from command words to what is written and reported.
 //! `specs/Report.antt` says what a report promises.
 #![tactic(auto)]
 
+mod check;
 mod command;
 mod drive;
 mod line;
@@ -13,7 +14,7 @@ mod top;
 
 pub use command::{Command, RunWords};
 pub use status::{Refusal, Report, Status};
-pub use top::{earthc, threaded};
+pub use top::{earthc, plain, threaded};
 
 #[cfg(test)]
 mod tests;

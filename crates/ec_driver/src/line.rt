@@ -16,13 +16,19 @@ fn append_place(line: &mut Text, at: Span) -> Result<(), AllocError>
     line.append(Buffer::new().format(at.to).as_bytes())
 }
 
-fn append_name(line: &mut Text, what: u8) -> Result<(), AllocError>
-    ensures { OnOk result (line.new ≡ line.old ++ name_of what) }
+/// The name of a refusal by its number.
+fn name(what: u8) -> &'static [u8]
+    ensures { result.now ≡ name_of what }
 {
-    if what == 7 {
-        line.append(b"TooLong")
-    } else {
-        line.append(b"NotYet")
+    match what {
+        1 => b"BadByte",
+        2 => b"BadNumber",
+        3 => b"OpenComment",
+        4 => b"OpenString",
+        5 => b"BadEscape",
+        6 => b"HashLine",
+        7 => b"TooLong",
+        _ => b"NotYet",
     }
 }
 
@@ -34,7 +40,7 @@ fn refusal_line(alloc: Global, refusal: &Refusal) -> Result<Text, AllocError>
     line.append(b" at ")?;
     append_place(&mut line, refusal.at)?;
     line.append(b" ")?;
-    append_name(&mut line, refusal.what)?;
+    line.append(name(refusal.what))?;
     line.append(b"\n")?;
     Ok(line)
 }

@@ -18,6 +18,7 @@ use ec_agree::{ended_runs_agree, unended_runs_go_on};
 use ec_base::MAX_STEPS;
 use ec_core::{Code, Run};
 use ec_edge::Sink;
+use ec_lex::texts_have_one_cut;
 use ec_small::Program;
 use ec_split::split;
 use std::alloc::Global;
@@ -40,6 +41,7 @@ pub(crate) fn run_program<O: Sink, E: Sink>(
         Ok(progress) => {
             ended_runs_agree();
             unended_runs_go_on();
+            texts_have_one_cut();
             finish(alloc, out, err, progress, code)
         }
     }

@@ -12,7 +12,7 @@ use ec_edge::Sink;
 use std::alloc::Global;
 
 /// Puts the line of want of memory, which takes none.
-fn say_no_memory<E: Sink>(err: &mut E) -> Status
+pub(crate) fn say_no_memory<E: Sink>(err: &mut E) -> Status
     ensures status { (result ≡ Status.NoMemory) ⊎ (result ≡ Status.WriteFault) }
     ensures write { result ≡ Status.WriteFault → Rose (E.count err.old) (E.count err.new) }
 {

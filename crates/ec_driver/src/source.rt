@@ -1,35 +1,25 @@
 //! From a file to the tree of its program.
 ghost use Rattle.std.specs.Prelude.{◌≡◌, List, ℕ};
+ghost use Rattle.ec_base.specs.Lexical.{AreTokens};
 ghost use Rattle.ec_edge.specs.Edge.{Rose};
-ghost use Rattle.ec_driver.specs.Source.{Loaded, Reading, past, span_at};
+ghost use Rattle.ec_driver.specs.Source.{Loaded, Parsing, Reading};
 
 use crate::status::{Refusal, Status};
-use ec_base::{Fail, MAX_SOURCE, Span, Text};
+use ec_base::{Fail, MAX_SOURCE, Text, Token};
 use ec_edge::{ReadEnd, Shelf};
-use ec_lex::{LexRefusal, Scan, scan};
+use ec_lex::lex;
 use ec_small::{Program, read};
 use std::alloc::Global;
 
-/// The byte at which lexing stops, which is no token.
-fn past(refusal: Option<LexRefusal>) -> Span
-    ensures { result ≡ past refusal }
+/// The tree of the tokens of a text, or where they are none.
+fn parse(alloc: Global, tokens: &[Token]) -> Result<Program, Fail<Refusal>>
+    requires { AreTokens tokens.now }
+    ensures { Parsing tokens.now result }
 {
-    match refusal {
-        None => Span { from: 0, to: 0 },
-        Some(r) => Span {
-            from: r.at.from,
-            to: r.at.from.saturating_add(1),
-        },
-    }
-}
-
-/// Where the token of this number stands.
-fn span_at(scanned: &Scan, at: usize) -> Span
-    ensures { result ≡ span_at scanned.now at }
-{
-    match scanned.tokens.get(at) {
-        Some(token) => token.at,
-        None => past(scanned.refusal),
+    match read(alloc, tokens) {
+        Ok(program) => Ok(program),
+        Err(Fail::Memory) => Err(Fail::Memory),
+        Err(Fail::Refused(at)) => Err(Fail::Refused(Refusal::not_yet(tokens[at].at))),
     }
 }
 
@@ -40,11 +30,10 @@ fn tree(alloc: Global, text: &Text) -> Result<Program, Fail<Refusal>>
     if text.len() > MAX_SOURCE {
         return Err(Fail::Refused(Refusal::too_long()));
     }
-    let scanned = scan(alloc, text.as_slice())?;
-    match read(alloc, scanned.tokens.as_slice()) {
-        Ok(program) => Ok(program),
+    match lex(alloc, text.as_slice()) {
+        Ok(tokens) => parse(alloc, tokens.as_slice()),
         Err(Fail::Memory) => Err(Fail::Memory),
-        Err(Fail::Refused(at)) => { Err(Fail::Refused(Refusal::not_yet(span_at(&scanned, at)))) },
+        Err(Fail::Refused(first)) => Err(Fail::Refused(Refusal::not_token(first))),
     }
 }
 

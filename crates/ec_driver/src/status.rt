@@ -1,9 +1,10 @@
 //! How a command ends.
 ghost use Rattle.std.specs.Prelude.{◌≡◌};
-ghost use Rattle.ec_driver.specs.Lines.{not_yet, number_of, too_long};
+ghost use Rattle.ec_driver.specs.Lines.{not_token, not_yet, number_of, too_long};
 
 use ec_base::Span;
 use ec_core::{Code, Run};
+use ec_lex::LexRefusal;
 
 /// Why and where a source is refused; `other` is a second place that the refusal speaks of.
 #[derive(Clone, Copy, Debug, PartialEq, Eq)]
@@ -14,6 +15,17 @@ pub struct Refusal {
 }
 
 impl Refusal {
+    /// The text has no token here.
+    pub(crate) fn not_token(first: LexRefusal) -> Refusal
+        ensures { result ≡ not_token first }
+    {
+        Refusal {
+            what: first.what,
+            at: first.at,
+            other: None,
+        }
+    }
+
     /// The file has more bytes than a source may have.
     pub(crate) fn too_long() -> Refusal
         ensures { result ≡ too_long }
@@ -43,7 +55,7 @@ impl Refusal {
 /// How a command ends.
 #[derive(Clone, Copy, Debug, PartialEq, Eq)]
 pub enum Status {
-    /// The run has ended.
+    /// The run has ended, or the source is accepted.
     Done,
     /// The words are no command.
     WordsRefused,

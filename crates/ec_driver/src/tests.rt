@@ -46,6 +46,12 @@ fn call(alloc: Global, words: &[&[u8]], source: Text, faults: Faults) -> Result<
     Ok(Called { report, out, err })
 }
 
+/// Checks a source.
+fn check(alloc: Global, source: &[u8], faults: Faults) -> Result<Called, NoMemory> {
+    let source = Text::from_slice(alloc, source)?;
+    call(alloc, &[b"check", b"a.ec"], source, faults)
+}
+
 /// Runs a source.
 fn run(alloc: Global, source: &[u8], faults: Faults) -> Result<Called, NoMemory> {
     let source = Text::from_slice(alloc, source)?;
@@ -119,7 +125,7 @@ fn programs_print_and_have_a_result(rt: HostRuntime) -> Result<(), Fail> {
 
 #[test]
 fn a_source_is_refused_where_no_program_goes_on(rt: HostRuntime) -> Result<(), Fail> {
-    let cases: [(&[u8], u32, u32, &[u8]); 4] = [
+    let cases: [(&[u8], u32, u32, &[u8]); 3] = [
         (
             b"int main(){ while (1) ; return 0; }",
             12,
@@ -133,16 +139,100 @@ fn a_source_is_refused_where_no_program_goes_on(rt: HostRuntime) -> Result<(), F
             18,
             b"refused 9 at 18..18 NotYet\n",
         ),
-        (
-            b"int main(){ return $; }",
-            19,
-            20,
-            b"refused 9 at 19..20 NotYet\n",
-        ),
     ];
     for (source, from, to, line) in cases {
+        let checked = check(rt.alloc(), source, NO_FAULTS)?;
+        is_bare(&rt, &checked, refused(9, from, to), line);
         let called = run(rt.alloc(), source, NO_FAULTS)?;
         is_bare(&rt, &called, refused(9, from, to), line);
+    }
+    Ok(())
+}
+
+#[test]
+fn a_source_is_refused_where_it_has_no_token(rt: HostRuntime) -> Result<(), Fail> {
+    let cases: [(&[u8], u8, u32, u32, &[u8]); 7] = [
+        (
+            b"int main(){ return $; }",
+            1,
+            19,
+            20,
+            b"refused 1 at 19..20 BadByte\n",
+        ),
+        (
+            b"int main(){ return 9223372036854775808; }",
+            2,
+            19,
+            38,
+            b"refused 2 at 19..38 BadNumber\n",
+        ),
+        (
+            b"int main(){ return 0; } /* end",
+            3,
+            24,
+            30,
+            b"refused 3 at 24..30 OpenComment\n",
+        ),
+        (
+            b"int main(){ printf(\"a\\q\x01); }\n",
+            4,
+            19,
+            28,
+            b"refused 4 at 19..28 OpenString\n",
+        ),
+        (
+            b"int main(){ printf(\"a\\q\"); }",
+            5,
+            21,
+            23,
+            b"refused 5 at 21..23 BadEscape\n",
+        ),
+        (
+            b"#define X\nint main(){ return X; }",
+            6,
+            0,
+            9,
+            b"refused 6 at 0..9 HashLine\n",
+        ),
+        (b"while 00", 2, 6, 8, b"refused 2 at 6..8 BadNumber\n"),
+    ];
+    for (source, what, from, to, line) in cases {
+        let checked = check(rt.alloc(), source, NO_FAULTS)?;
+        is_bare(&rt, &checked, refused(what, from, to), line);
+        let called = run(rt.alloc(), source, NO_FAULTS)?;
+        is_bare(&rt, &called, refused(what, from, to), line);
+    }
+    Ok(())
+}
+
+#[test]
+fn a_checked_source_is_accepted_and_not_run(rt: HostRuntime) -> Result<(), Fail> {
+    let called = check(rt.alloc(), ANSWER, NO_FAULTS)?;
+    assert_eq!(rt; called.report.status, Status::Done);
+    assert!(rt; called.report.run.is_none());
+    assert!(rt; called.report.code.is_none());
+    assert_eq!(rt; called.out.bytes(), b"accepted\n".as_slice());
+    assert_eq!(rt; called.err.bytes(), b"".as_slice());
+    Ok(())
+}
+
+#[test]
+fn what_a_check_cannot_write_is_a_fault(rt: HostRuntime) -> Result<(), Fail> {
+    let cases: [(&[u8], &[(u64, u64)], &[(u64, u64)], &[u8]); 3] = [
+        (ANSWER, &[(1, 4)], &[], b"acce"),
+        (b"", &[], &[(1, 0)], b""),
+        (b"$", &[], &[(1, 0)], b""),
+    ];
+    for (source, out, err, written) in cases {
+        let faults = Faults {
+            shelf: &[],
+            out,
+            err,
+        };
+        let called = check(rt.alloc(), source, faults)?;
+        assert_eq!(rt; called.report.status, Status::WriteFault);
+        assert_eq!(rt; called.out.bytes(), written);
+        assert_eq!(rt; called.err.bytes(), b"".as_slice());
     }
     Ok(())
 }
@@ -163,7 +253,7 @@ fn a_source_has_at_most_its_bytes(rt: HostRuntime) -> Result<(), Fail> {
     ];
     for (bytes, status, line) in cases {
         let spaces = Text::from_vec(vec![in rt.alloc(); b' '; bytes]?);
-        let called = call(rt.alloc(), &[b"run", b"a.ec"], spaces, NO_FAULTS)?;
+        let called = call(rt.alloc(), &[b"check", b"a.ec"], spaces, NO_FAULTS)?;
         is_bare(&rt, &called, status, line);
     }
     Ok(())
@@ -195,21 +285,23 @@ fn what_cannot_be_written_is_a_fault_beside_its_run(rt: HostRuntime) -> Result<(
 fn a_file_that_cannot_be_read_is_a_fault(rt: HostRuntime) -> Result<(), Fail> {
     let cases: [(&[u8], &[u64]); 3] = [(b"none.ec", &[]), (b"a.ec", &[1]), (b"A.ec", &[2])];
     for (file, shelf) in cases {
-        let source = Text::from_slice(rt.alloc(), ANSWER)?;
-        let faults = Faults {
-            shelf,
-            out: &[],
-            err: &[],
-        };
-        let called = call(rt.alloc(), &[b"run", file], source, faults)?;
-        is_bare(&rt, &called, Status::ReadFault, b"read fault\n");
+        for command in [b"run".as_slice(), b"check".as_slice()] {
+            let source = Text::from_slice(rt.alloc(), ANSWER)?;
+            let faults = Faults {
+                shelf,
+                out: &[],
+                err: &[],
+            };
+            let called = call(rt.alloc(), &[command, file], source, faults)?;
+            is_bare(&rt, &called, Status::ReadFault, b"read fault\n");
+        }
     }
     Ok(())
 }
 
 #[test]
 fn words_that_are_no_command_are_refused(rt: HostRuntime) -> Result<(), Fail> {
-    let cases: [&[&[u8]]; 12] = [
+    let cases: [&[&[u8]]; 17] = [
         &[],
         &[b""],
         &[b"run"],
@@ -222,6 +314,11 @@ fn words_that_are_no_command_are_refused(rt: HostRuntime) -> Result<(), Fail> {
         &[b"run", b"--"],
         &[b"run", b"a.tc"],
         &[b"run", b"a.ec", b""],
+        &[b"check"],
+        &[b"check", b""],
+        &[b"check", b"-a.ec"],
+        &[b"check", b"a.tc"],
+        &[b"check", b"a.ec", b"a.ec"],
     ];
     for words in cases {
         let source = Text::from_slice(rt.alloc(), ANSWER)?;

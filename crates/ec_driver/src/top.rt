@@ -1,4 +1,4 @@
-//! The top call and its half that runs programs.
+//! The top call and its two halves: one runs programs, and one never waits.
 ghost use Rattle.std.specs.Prelude.{◌≡◌, ◌⊎◌, ◌<◌, ◌≤◌, ◌^◌, ℕ, true, List, None, Some, is_some};
 ghost use Rattle.ec_core.specs.declared.choice.Run.{Run};
 ghost use Rattle.ec_core.specs.declared.code.Code.{Code};
@@ -8,14 +8,16 @@ ghost use Rattle.ec_core.specs.Valid.{valid};
 ghost use Rattle.ec_edge.specs.Edge.{Rose};
 ghost use Rattle.ec_small.specs.declared.tree.Program.{Program};
 ghost use Rattle.ec_driver.specs.declared.command.RunWords.{RunWords};
-ghost use Rattle.ec_driver.specs.declared.command.Command.TheVariants.{Run as RunCommand};
+ghost use Rattle.ec_driver.specs.declared.command.Command.{Command};
+ghost use Rattle.ec_driver.specs.declared.command.Command.TheVariants.{Check as CheckCommand, Run as RunCommand};
 ghost use Rattle.ec_driver.specs.declared.status.Refusal.{Refusal};
-ghost use Rattle.ec_driver.specs.Command.{IsGiven, IsNoCommand, IsRun, run_of};
-ghost use Rattle.ec_driver.specs.Source.{Accepts, IsRefused, Rejects};
-ghost use Rattle.ec_driver.specs.Said.{IsUntouched, Says, said_status, stream};
+ghost use Rattle.ec_driver.specs.Command.{ForPlain, ForThreaded, IsCheck, IsCommand, IsGiven, IsNoCommand, IsRun, file_of, run_of};
+ghost use Rattle.ec_driver.specs.Source.{Accepts, IsAccepted, IsRefused, Rejects};
+ghost use Rattle.ec_driver.specs.Said.{IsUntouched, Says, said_accepted, said_status, stream};
 ghost use Rattle.ec_driver.specs.Kept.{IsCodeOf, IsLast, IsSpent, IsWithin};
-ghost use Rattle.ec_driver.specs.Report.{HasKept, HasLast, HasRun, IsBare, IsOrFails, IsOrUnread, IsReport, IsUnrun, RunsOrFails, SaysLast};
+ghost use Rattle.ec_driver.specs.Report.{HasKept, HasLast, HasRun, IsBare, IsChecked, IsOrFails, IsOrUnread, IsReport, IsUnrun, RunsOrFails, SaysLast};
 
+use crate::check::accept;
 use crate::command::{Command, RunWords, read_words};
 use crate::run::run_program;
 use crate::say::bare;
@@ -23,6 +25,7 @@ use crate::source::load;
 use crate::status::{Report, Status};
 use ec_base::{Fail, Text};
 use ec_edge::{Gate, Shelf, Sink};
+use ec_lex::texts_have_one_cut;
 use std::alloc::Global;
 
 /// Runs the program of a file, and says and reports how that ended.
@@ -38,9 +41,69 @@ fn run_file<S: Shelf, O: Sink, E: Sink>(
     ensures stays { (name : List ℕ) → S.content shelf.new name ≡ S.content shelf.old name }
     ensures unwritten { S.write_count shelf.new ≡ S.write_count shelf.old }
 {
+    texts_have_one_cut();
     match load(alloc, shelf, &words.file) {
         Ok(program) => run_program(alloc, &program, out, err),
         Err(status) => bare(alloc, err, status),
+    }
+}
+
+/// Checks the source of a file, and says whether it is accepted.
+fn check_file<S: Shelf, O: Sink, E: Sink>(
+    alloc: Global,
+    file: &Text,
+    shelf: &mut S,
+    out: &mut O,
+    err: &mut E,
+) -> Report
+    ensures report { IsChecked (S.content shelf.old file.now) (S.read_count shelf.old) (S.read_count shelf.new) (stream (O.written out.old) (O.written out.new) (O.count out.old) (O.count out.new)) (stream (E.written err.old) (E.written err.new) (E.count err.old) (E.count err.new)) result }
+    ensures stays { (name : List ℕ) → S.content shelf.new name ≡ S.content shelf.old name }
+    ensures unwritten { S.write_count shelf.new ≡ S.write_count shelf.old }
+{
+    texts_have_one_cut();
+    match load(alloc, shelf, file) {
+        Ok(_program) => accept(out, err),
+        Err(status) => bare(alloc, err, status),
+    }
+}
+
+/// Does a command that runs no program. It always returns.
+pub fn plain<S: Shelf, O: Sink, E: Sink>(
+    alloc: Global,
+    command: &Command,
+    shelf: &mut S,
+    out: &mut O,
+    err: &mut E,
+) -> Report
+    requires own { ForPlain command.now }
+    requires given { IsGiven command.now }
+
+    // A source is refused, or accepted, exactly where its content is, unless the call fails first.
+    ensures refused_only { (file : List ℕ) → command.now ≡ CheckCommand file → (r : Refusal) → result.status ≡ Status.SourceRefused r → IsRefused (S.content shelf.old file) r }
+    ensures refused { (file : List ℕ) → command.now ≡ CheckCommand file → (b : List ℕ) → S.content shelf.old file ≡ Some b → (r : Refusal) → Rejects b r → IsOrUnread (Status.SourceRefused r) result.status }
+    ensures accepted_only { (file : List ℕ) → command.now ≡ CheckCommand file → result.status ≡ Status.Done → IsAccepted (S.content shelf.old file) }
+    ensures accepted { (file : List ℕ) → command.now ≡ CheckCommand file → (b : List ℕ) → S.content shelf.old file ≡ Some b → (p : Program) → Accepts b p → IsOrUnread Status.Done result.status }
+    ensures not_words { result.status ≡ Status.WordsRefused → ⊥ }
+    ensures not_spent { result.status ≡ Status.StepsSpent → ⊥ }
+
+    // A fault comes only where its count rose.
+    ensures read { result.status ≡ Status.ReadFault → Rose (S.read_count shelf.old) (S.read_count shelf.new) }
+    ensures write { result.status ≡ Status.WriteFault → Rose (O.count out.old) (O.count out.new) ⊎ Rose (E.count err.old) (E.count err.new) }
+
+    // The shelf stays as it is, and no run is kept.
+    ensures stays { (name : List ℕ) → S.content shelf.new name ≡ S.content shelf.old name }
+    ensures unwritten { S.write_count shelf.new ≡ S.write_count shelf.old }
+    ensures run { result.run ≡ None }
+    ensures code { result.code ≡ None }
+
+    // What is written is said of the status.
+    ensures says { IsUnrun result.status → Says (stream (O.written out.old) (O.written out.new) (O.count out.old) (O.count out.new)) (stream (E.written err.old) (E.written err.new) (E.count err.old) (E.count err.new)) (said_status result.status) }
+    ensures says_accepted { result.status ≡ Status.Done → Says (stream (O.written out.old) (O.written out.new) (O.count out.old) (O.count out.new)) (stream (E.written err.old) (E.written err.new) (E.count err.old) (E.count err.new)) said_accepted }
+    ensures unsaid { result.status ≡ Status.NoMemory → IsUntouched (stream (O.written out.old) (O.written out.new) (O.count out.old) (O.count out.new)) }
+{
+    match command {
+        Command::Check(file) => check_file(alloc, file, shelf, out, err),
+        Command::Run(_) => unreachable!(),
     }
 }
 
@@ -57,6 +120,7 @@ pub fn threaded<S: Shelf, O: Sink, E: Sink, G: Gate + Sync, F: Fn(u64) -> u64 + 
 ) -> Report
     requires callable { (c : ℕ) → 1 ≤ c → c < 2 ^ 64 → F.pre _choose.now c }
     requires below { (c r : ℕ) → 1 ≤ c → c < 2 ^ 64 → F.post _choose.now c r → r < c }
+    requires own { ForThreaded command.now }
     requires given { IsGiven command.now }
     ensures report { (c : RunWords) → command.now ≡ RunCommand c → IsReport (S.content shelf.old c.file) (S.read_count shelf.old) (S.read_count shelf.new) (stream (O.written out.old) (O.written out.new) (O.count out.old) (O.count out.new)) (stream (E.written err.old) (E.written err.new) (E.count err.old) (E.count err.new)) c result }
     ensures stays { (name : List ℕ) → S.content shelf.new name ≡ S.content shelf.old name }
@@ -64,6 +128,7 @@ pub fn threaded<S: Shelf, O: Sink, E: Sink, G: Gate + Sync, F: Fn(u64) -> u64 + 
 {
     match command {
         Command::Run(words) => run_file(alloc, words, shelf, out, err),
+        Command::Check(_) => unreachable!(),
     }
 }
 
@@ -85,10 +150,13 @@ pub fn earthc<S: Shelf, O: Sink, E: Sink, G: Gate + Sync, F: Fn(u64) -> u64 + Sy
     ensures words_only { result.status ≡ Status.WordsRefused → IsNoCommand words.now }
     ensures words { IsNoCommand words.now → IsOrFails Status.WordsRefused result.status }
 
-    // A source is refused exactly where its content is, unless the call fails first.
-    ensures refused_only { (c : RunWords) → IsRun words.now c → (r : Refusal) → result.status ≡ Status.SourceRefused r → IsRefused (S.content shelf.old c.file) r }
-    ensures refused { (c : RunWords) → IsRun words.now c → (b : List ℕ) → S.content shelf.old c.file ≡ Some b → (r : Refusal) → Rejects b r → IsOrUnread (Status.SourceRefused r) result.status }
+    // A source is refused exactly where its content is, unless the call fails first; what isn't is run, or said to be accepted.
+    ensures refused_only { (c : Command) → IsCommand words.now c → (r : Refusal) → result.status ≡ Status.SourceRefused r → IsRefused (S.content shelf.old (file_of c)) r }
+    ensures refused { (c : Command) → IsCommand words.now c → (b : List ℕ) → S.content shelf.old (file_of c) ≡ Some b → (r : Refusal) → Rejects b r → IsOrUnread (Status.SourceRefused r) result.status }
     ensures accepted { (c : RunWords) → IsRun words.now c → (b : List ℕ) → S.content shelf.old c.file ≡ Some b → (p : Program) → Accepts b p → RunsOrFails result.status }
+    ensures checked_only { (file : List ℕ) → IsCheck words.now file → result.status ≡ Status.Done → IsAccepted (S.content shelf.old file) }
+    ensures checked { (file : List ℕ) → IsCheck words.now file → (b : List ℕ) → S.content shelf.old file ≡ Some b → (p : Program) → Accepts b p → IsOrUnread Status.Done result.status }
+    ensures check_not_spent { (file : List ℕ) → IsCheck words.now file → result.status ≡ Status.StepsSpent → ⊥ }
 
     // A fault comes only where its count rose.
     ensures read { result.status ≡ Status.ReadFault → Rose (S.read_count shelf.old) (S.read_count shelf.new) }
@@ -99,12 +167,17 @@ pub fn earthc<S: Shelf, O: Sink, E: Sink, G: Gate + Sync, F: Fn(u64) -> u64 + Sy
     ensures unwritten { S.write_count shelf.new ≡ S.write_count shelf.old }
 
     // Where a run was made it is kept, also where only its output couldn't be written; where none is, out is as it was.
-    ensures kept { HasRun result.status → HasKept result }
-    ensures kept_unsaid { result.status ≡ Status.WriteFault → (Rose (E.count err.old) (E.count err.new) → ⊥) → HasKept result ⊎ IsNoCommand words.now }
+    ensures kept { (c : RunWords) → IsRun words.now c → HasRun result.status → HasKept result }
+    ensures kept_unsaid { (c : RunWords) → IsRun words.now c → result.status ≡ Status.WriteFault → (Rose (E.count err.old) (E.count err.new) → ⊥) → HasKept result }
+    ensures unkept { (c : RunWords) → IsRun words.now c → result.run ≡ None → IsUntouched (stream (O.written out.old) (O.written out.new) (O.count out.old) (O.count out.new)) }
     ensures both { is_some result.run ≡ is_some result.code }
+
+    // Nothing is kept of any other command.
     ensures bare { IsUnrun result.status → IsBare result }
     ensures no_command { IsNoCommand words.now → IsBare result }
-    ensures unkept { result.run ≡ None → IsUntouched (stream (O.written out.old) (O.written out.new) (O.count out.old) (O.count out.new)) }
+    ensures no_command_unsaid { IsNoCommand words.now → IsUntouched (stream (O.written out.old) (O.written out.new) (O.count out.old) (O.count out.new)) }
+    ensures check_bare { (file : List ℕ) → IsCheck words.now file → IsBare result }
+    ensures check_unsaid { (file : List ℕ) → IsCheck words.now file → result.status ≡ Status.NoMemory → IsUntouched (stream (O.written out.old) (O.written out.new) (O.count out.old) (O.count out.new)) }
 
     // A kept run is a run of the very code in the report, from the start that the words ask for.
     ensures last { (c : RunWords) → IsRun words.now c → (r : Run) → result.run ≡ Some r → HasLast c result r }
@@ -119,12 +192,16 @@ pub fn earthc<S: Shelf, O: Sink, E: Sink, G: Gate + Sync, F: Fn(u64) -> u64 + Sy
     ensures ended { (c : RunWords) → IsRun words.now c → (code : Code) (r : Run) (w : List Node) → IsLast c result code r w → HasRun result.status → HasEnded w → result.status ≡ Status.Done }
     ensures spent { (c : RunWords) → IsRun words.now c → (code : Code) (r : Run) (w : List Node) → IsLast c result code r w → result.status ≡ Status.StepsSpent → IsSpent r }
 
-    // What is written is said of the status, or of the last world.
+    // What is written is said of the status, or of the last world; of an accepted source, that it is.
     ensures says { IsUnrun result.status → Says (stream (O.written out.old) (O.written out.new) (O.count out.old) (O.count out.new)) (stream (E.written err.old) (E.written err.new) (E.count err.old) (E.count err.new)) (said_status result.status) }
+    ensures check_says { (file : List ℕ) → IsCheck words.now file → result.status ≡ Status.Done → Says (stream (O.written out.old) (O.written out.new) (O.count out.old) (O.count out.new)) (stream (E.written err.old) (E.written err.new) (E.count err.old) (E.count err.new)) said_accepted }
     ensures said { (c : RunWords) → IsRun words.now c → (code : Code) (r : Run) (w : List Node) → IsLast c result code r w → HasRun result.status → SaysLast (stream (O.written out.old) (O.written out.new) (O.count out.old) (O.count out.new)) (stream (E.written err.old) (E.written err.new) (E.count err.old) (E.count err.new)) w result.status }
 {
     match read_words(alloc, words) {
-        Ok(command) => threaded(alloc, &command, shelf, out, err, gate, choose),
+        Ok(command) => match &command {
+            Command::Check(_) => plain(alloc, &command, shelf, out, err),
+            Command::Run(_) => threaded(alloc, &command, shelf, out, err, gate, choose),
+        },
         Err(Fail::Memory) => bare(alloc, err, Status::NoMemory),
         Err(Fail::Refused(_)) => bare(alloc, err, Status::WordsRefused),
     }

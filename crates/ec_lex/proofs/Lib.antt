@@ -4,6 +4,7 @@ mod Cutting
 mod Decoding
 mod Found
 mod Fronts
+mod Lexicals
 mod Marking
 mod OneCut
 mod Parts
@@ -12,3 +13,4 @@ pub mod Scanning
 mod Spelling
 mod Told
 mod Values
+mod Whole

@@ -16,7 +16,7 @@ use Rattle.ec_lex.specs.declared.tokens.Scan.{Scan}
 use Rattle.ec_lex.specs.Bytes.{is_line_blank, is_blank, line_length, is_include}
 use Rattle.ec_lex.specs.Front.{front, IsFrontOf, comment, commented, comment_end, hash_line}
 use Rattle.ec_lex.specs.Scan.{scanned, scanned_from, put, token, span}
-use Rattle.ec_lex.specs.Tokens.{IsAll, is_within_line, fresh_after, IsInclude, IsSkipped, blank, line_comment, block_comment, include_line, IsSpelled, word, number, string, mark, IsFault, bad_byte, bad_number, open_comment, bad_inside, Cuts, over, skips, takes, fails, number_of, IsOnlyCut}
+use Rattle.ec_lex.specs.Tokens.{IsAll, is_within_line, fresh_after, IsInclude, IsSkipped, blank, line_comment, block_comment, include_line, IsSpelled, word, number, string, mark, IsFault, bad_byte, bad_number, open_comment, bad_inside, Cuts, over, skips, takes, fails, number_of, IsOnlyCut, TextsHaveACut, TextsHaveOneCut}
 use Rattle.ec_lex.specs.Tokens as spec
 use Rattle.ec_lex.proofs.Parts.{stale_behind, fresh_after-append, include_from, include_found}
 use Rattle.ec_lex.proofs.Comments.{comment_ends}
@@ -79,7 +79,7 @@ found_skipped (include_line {fresh = fresh} {part = part} {rest = rest} is inclu
 
 -- ---- tokens
 
-found_spelled : {part rest : List ℕ} {kind : TokenKind} (fresh : Bool) → IsSpelled part rest kind → front fresh (part ++ rest) ≡ Takes kind (length part)
+pub found_spelled : {part rest : List ℕ} {kind : TokenKind} (fresh : Bool) → IsSpelled part rest kind → front fresh (part ++ rest) ≡ Takes kind (length part)
 found_spelled fresh (word {part = part} {rest = rest} all begins) = found_word fresh part rest all begins
 found_spelled fresh (number {part = part} {rest = rest} {value = value} all is below) = found_number fresh part rest value all is below
 found_spelled fresh (string {part = part} {inside = inside} {rest = rest} {bytes = bytes} is inner) =
@@ -136,18 +136,26 @@ cut_is (fails {at = at} {fresh = fresh} {text = text} {before = before} {bad = b
     ap (λ r. record { tokens = []; refusal = Some r }) (refused_is ∙ ap (λ (s : Span). record { what = number_of fault; at = s }) (sym (span_is at (length before) (length bad))))
     ∙ ap (after at text) (sym (ap (front fresh) cut ∙ found_fault is)) ∙ sym (at_front at fresh text)
 
+-- each text has a cut
+pub some_cut : TextsHaveACut
+some_cut text = ((scanned text).tokens, (scanned text).refusal, cuts text)
+
+-- and no other
+pub one_cut : TextsHaveOneCut
+one_cut text tokens refusal c others other d =
+    let same = cut_is d ∙ sym (cut_is c) in
+    (ap (λ x. x.tokens) same, ap (λ x. x.refusal) same)
+
 -- ---- where the scan ends
 
 -- the scan of a text
 pub record IsScan (text : List ℕ) (s : Scan) : Type 0 where
-  pub scanned : s ≡ scanned text
   pub cuts : Cuts 0 true text s.tokens s.refusal
   pub only : IsOnlyCut text s.tokens s.refusal
 
 scan_is : (text : List ℕ) (s : Scan) → s ≡ scanned text → IsScan text s
 unfolding scanned
 scan_is text s is = record {
-  scanned = is;
   cuts = subst (λ x. Cuts 0 true text x.tokens x.refusal) (sym is) (cuts text);
   only = λ others other c. let same = cut_is c ∙ sym is in (ap (λ x. x.tokens) same, ap (λ x. x.refusal) same);
 }

@@ -1,6 +1,7 @@
 -- What stands at the front of a text: nothing, something that is skipped, a token, or a fault. Places count from the front.
-use Rattle.std.specs.Prelude.{◌≡◌, ℕ, ◌+◌, ◌-◌, ◌<◌, ◌≤◌, Bool, false, ◌==◌, ◌&&◌, ◌||◌, if◌then◌else◌, List, [], ◌∷◌, length, take, drop, slice_index, Option, Some, None, pos}
+use Rattle.std.specs.Prelude.{◌≡◌, ℕ, ◌+◌, ◌-◌, ◌<◌, ◌≤◌, Bool, true, false, ◌==◌, ◌&&◌, ◌||◌, if◌then◌else◌, List, [], ◌∷◌, length, take, drop, slice_index, Option, Some, None, pos}
 use Rattle.std.specs.Char.{is_ascii_digit}
+use Rattle.ec_base.specs.Lexical.{is_lexical}
 use Rattle.ec_base.specs.declared.token.Mark.{Mark}
 use Rattle.ec_base.specs.declared.token.TokenKind.TheVariants.{Word, Number, Str}
 use Rattle.ec_base.specs.declared.token.TokenKind.TheVariants as kind
@@ -109,3 +110,10 @@ IsFrontOf text Over = length text ≡ 0
 IsFrontOf text (Skips count fresh) = IsPart count text
 IsFrontOf text (Takes kind count) = IsPart count text
 IsFrontOf text (Fails fault from to) = (from < to) × (to ≤ length text)
+
+-- a token at the front is one that a source text can give
+abbrev pub IsLexicalFront : Front → Type 0
+IsLexicalFront Over = Unit {0}
+IsLexicalFront (Skips count fresh) = Unit {0}
+IsLexicalFront (Takes kind count) = is_lexical kind ≡ true
+IsLexicalFront (Fails fault from to) = Unit {0}

@@ -1,4 +1,4 @@
--- what the contracts of `scan` and `lex` rest on
+-- what the contract of `lex` rests on
 pub mod Bytes
 pub mod Marks
 pub mod Tokens

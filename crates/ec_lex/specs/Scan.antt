@@ -1,11 +1,10 @@
 -- The tokens of a text, and its first refusal.
-use Rattle.std.specs.Prelude.{ℕ, zero, suc, ◌+◌, ◌-◌, Bool, true, false, List, [], ◌∷◌, Option, Some, None, Result, Ok, Err}
+use Rattle.std.specs.Prelude.{ℕ, zero, suc, ◌+◌, ◌-◌, Bool, true, false, List, [], ◌∷◌, Some, None}
 use Rattle.ec_base.specs.declared.token.Span.{Span}
 use Rattle.ec_base.specs.declared.token.Token.{Token}
 use Rattle.ec_base.specs.declared.token.TokenKind.{TokenKind}
 use Rattle.ec_base.specs.declared.token.TokenKind.TheVariants.{End}
 use Rattle.ec_lex.specs.declared.fault.Fault.{Fault}
-use Rattle.ec_lex.specs.declared.fault.LexRefusal.{LexRefusal}
 use Rattle.ec_lex.specs.declared.front.Front.{Front}
 use Rattle.ec_lex.specs.declared.front.Front.TheVariants.{Over, Skips, Takes, Fails}
 use Rattle.ec_lex.specs.declared.tokens.Scan.{Scan}
@@ -48,12 +47,3 @@ scanned_from zero at fresh (b ∷ rest) = fronted at (front fresh (b ∷ rest)) 
 -- The tokens of a text up to its first refusal, and that refusal; where there is none, the last token is the end.
 unfoldable pub scanned : List ℕ → Scan
 scanned = scanned_from 0 0 true
-
--- the tokens, unless there is a refusal
-abbrev pub answered : List Token → Option LexRefusal → Result (List Token) LexRefusal
-answered tokens None = Ok tokens
-answered tokens (Some refusal) = Err refusal
-
--- the tokens of a text that has no refusal, and else its refusal
-unfoldable pub lexed : List ℕ → Result (List Token) LexRefusal
-lexed text = answered (scanned text).tokens (scanned text).refusal

@@ -1,5 +1,7 @@
 -- Strings: where one closes, and what its inside stands for. Places count from the opening quote, which is at 0.
-use Rattle.std.specs.Prelude.{ℕ, ◌+◌, ◌-◌, ◌<◌, ◌≤◌, Bool, true, false, not, ◌==◌, ◌&&◌, ◌||◌, if◌then◌else◌, List, [], ◌∷◌, Option, Some, None}
+use Rattle.std.specs.Prelude.{◌≡◌, ℕ, ◌+◌, ◌-◌, ◌<◌, ◌≤◌, Bool, true, false, not, ◌==◌, ◌&&◌, ◌||◌, if◌then◌else◌, List, [], ◌∷◌, Option, Some, None}
+use Rattle.std.specs.List.{list_all}
+use Rattle.ec_base.specs.Lexical.{is_string_byte}
 use Rattle.ec_lex.specs.declared.fault.Fault.TheVariants.{BadByte, BadEscape}
 use Rattle.ec_lex.specs.declared.strings.Piece.{Piece}
 use Rattle.ec_lex.specs.declared.strings.Piece.TheVariants.{Backslash, Byte, Bad}
@@ -48,3 +50,14 @@ decoded escaped at (b ∷ rest) = followed escaped at (piece escaped b) (λ now.
 abbrev pub IsWithin : ℕ → Decoded → Type 0
 IsWithin count (Whole bytes) = Unit {0}
 IsWithin count (Broken fault from to) = (from < to) × (to ≤ count + 1)
+
+-- a byte that is stood for is one that a string may stand for
+abbrev pub IsLexicalPiece : Piece → Type 0
+IsLexicalPiece Backslash = Unit {0}
+IsLexicalPiece (Byte b) = is_string_byte b ≡ true
+IsLexicalPiece (Bad fault) = Unit {0}
+
+-- and so are all the bytes of a string
+abbrev pub IsLexicalString : Decoded → Type 0
+IsLexicalString (Whole bytes) = list_all is_string_byte bytes ≡ true
+IsLexicalString (Broken fault from to) = Unit {0}

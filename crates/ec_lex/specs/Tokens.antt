@@ -190,3 +190,18 @@ abbrev pub CutsInto : List ℕ → Result (List Token) (Fail LexRefusal) → Typ
 CutsInto text (Ok tokens) = Cuts 0 true text tokens None
 CutsInto text (Err (Refused refusal)) = (tokens : List Token) × Cuts 0 true text tokens (Some refusal)
 CutsInto text (Err Memory) = Unit {0}
+
+-- these alone are the tokens of the text, or this alone is its refusal
+abbrev pub IsOnly : List ℕ → Result (List Token) (Fail LexRefusal) → Type 0
+IsOnly text (Ok tokens) = IsOnlyCut text tokens None
+IsOnly text (Err (Refused refusal)) =
+    (others : List Token) (other : Option LexRefusal) → Cuts 0 true text others other → other ≡ Some refusal
+IsOnly text (Err Memory) = Unit {0}
+
+-- each text has a cut, and no other
+abbrev pub TextsHaveACut : Type 0
+TextsHaveACut = (text : List ℕ) → (tokens : List Token) × (refusal : Option LexRefusal) × Cuts 0 true text tokens refusal
+
+abbrev pub TextsHaveOneCut : Type 0
+TextsHaveOneCut =
+    (text : List ℕ) (tokens : List Token) (refusal : Option LexRefusal) → Cuts 0 true text tokens refusal → IsOnlyCut text tokens refusal

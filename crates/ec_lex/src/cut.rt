@@ -1,13 +1,13 @@
 //! Cuts a text into tokens.
-ghost use Rattle.std.specs.Prelude.{◌≡◌, ◌≤◌, ◌+◌, true, IfOk, length};
-ghost use Rattle.ec_base.specs.Answers.{Answers};
+ghost use Rattle.std.specs.Prelude.{◌≡◌, ◌≤◌, ◌+◌, true, IfOk, length, map};
+ghost use Rattle.ec_base.specs.Lexical.{AllLexical};
 ghost use Rattle.ec_lex.specs.Scan as spec;
-ghost use Rattle.ec_lex.specs.Tokens.{Cuts, CutsInto, IsOnlyCut, number_of};
+ghost use Rattle.ec_lex.specs.Tokens.{Cuts, CutsInto, IsOnly, IsOnlyCut, number_of};
 
 use crate::fault::{Fault, LexRefusal, number};
 use crate::front::{Front, read_front};
 use crate::tokens::Scan;
-use ec_base::{Fail, List, NoMemory, Span, Token, TokenKind};
+use ec_base::{Fail, List, NoMemory, Span, Token, TokenKind, Tokens};
 use std::alloc::Global;
 
 /// From the place `from` to the place `to` after the first `at` bytes of a text.
@@ -45,11 +45,11 @@ fn refusal(at: usize, fault: Fault, from: usize, to: usize) -> LexRefusal
 
 /// Cuts a text into tokens, up to its first refusal.
 #[tactic(auto, using(crate::proofs::Scanning::scanning), unfolding(crate::specs::Scan::scanned))]
-pub fn scan(alloc: Global, text: &[u8]) -> Result<Scan, NoMemory>
+fn scan(alloc: Global, text: &[u8]) -> Result<Scan, NoMemory>
     requires { length text.now ≤ 1048576 }
-    ensures scanned { IfOk result (λ s. s ≡ spec.scanned text.now) }
     ensures cuts { IfOk result (λ s. Cuts 0 true text.now s.tokens s.refusal) }
     ensures only { IfOk result (λ s. IsOnlyCut text.now s.tokens s.refusal) }
+    ensures lexical { IfOk result (λ s. AllLexical (map (λ x. x.kind) s.tokens)) }
 {
     let mut tokens = List::new(alloc);
     let mut at = 0usize;
@@ -82,16 +82,16 @@ pub fn scan(alloc: Global, text: &[u8]) -> Result<Scan, NoMemory>
     }
 }
 
-/// The tokens of a text that has no refusal.
-#[tactic(auto, unfolding(crate::specs::Scan::lexed))]
-pub fn lex(alloc: Global, text: &[u8]) -> Result<List<Token>, Fail<LexRefusal>>
+/// The tokens of a text, or its first refusal.
+#[tactic(auto, using(crate::proofs::Whole::are_tokens))]
+pub fn lex(alloc: Global, text: &[u8]) -> Result<Tokens, Fail<LexRefusal>>
     requires { length text.now ≤ 1048576 }
-    ensures lexed { Answers result (spec.lexed text.now) }
     ensures cuts { CutsInto text.now result }
+    ensures only { IsOnly text.now result }
 {
     let Scan { tokens, refusal } = scan(alloc, text)?;
     match refusal {
-        None => Ok(tokens),
+        None => Ok(Tokens::from_list(tokens)),
         Some(refusal) => Err(Fail::Refused(refusal)),
     }
 }

@@ -1,7 +1,7 @@
 //! What stands at the front of a text.
 ghost use Rattle.std.specs.Prelude.{◌≡◌, ◌<◌, ◌≤◌, ◌^◌, true, length, drop, IfOk, IfSome, slice_index};
 ghost use Rattle.std.specs.Char.{is_ascii_digit};
-ghost use Rattle.ec_lex.specs.Bytes.{is_word_byte};
+ghost use Rattle.ec_lex.specs.Tokens.{begins_word};
 ghost use Rattle.ec_lex.specs.Front as spec;
 
 use crate::bytes::{byte_at, is_include, line_length, run};
@@ -33,11 +33,12 @@ pub enum Front {
     },
 }
 
-#[tactic(auto, unfolding(crate::specs::Front::word))]
+#[tactic(auto, using(crate::proofs::Lexicals::begins_is_word_byte), unfolding(crate::specs::Front::word))]
 fn read_word(alloc: Global, text: &[u8]) -> Result<Front, AllocError>
-    requires { is_word_byte (slice_index text.now 0) ≡ true }
+    requires { begins_word (slice_index text.now 0) ≡ true }
     ensures value { IfOk result (λ f. f ≡ spec.word text.now) }
     ensures part { IfOk result (λ f. spec.IsFrontOf text.now f) }
+    ensures lexical { IfOk result spec.IsLexicalFront }
 {
     let word = run(text);
     Ok(Front::Takes {
@@ -46,11 +47,12 @@ fn read_word(alloc: Global, text: &[u8]) -> Result<Front, AllocError>
     })
 }
 
-#[tactic(auto, unfolding(crate::specs::Front::number))]
+#[tactic(auto, using(crate::proofs::Lexicals::number_lexical), unfolding(crate::specs::Front::number))]
 fn read_number(text: &[u8]) -> Front
     requires { is_ascii_digit (slice_index text.now 0) ≡ true }
     ensures value { result ≡ spec.number text.now }
     ensures part { spec.IsFrontOf text.now result }
+    ensures lexical { spec.IsLexicalFront result }
 {
     let digits = run(text);
     match number_value(digits) {
@@ -72,6 +74,7 @@ fn read_string(alloc: Global, text: &[u8]) -> Result<Front, AllocError>
     requires bound { length text.now < 2 ^ 63 }
     ensures value { IfOk result (λ f. f ≡ spec.string text.now) }
     ensures part { IfOk result (λ f. spec.IsFrontOf text.now f) }
+    ensures lexical { IfOk result spec.IsLexicalFront }
 {
     match closing(&text[1..]) {
         None => Ok(Front::Fails {
@@ -108,6 +111,7 @@ fn read_comment(text: &[u8]) -> Front
     requires { 2 ≤ length text.now }
     ensures value { result ≡ spec.comment text.now }
     ensures part { spec.IsFrontOf text.now result }
+    ensures lexical { spec.IsLexicalFront result }
 {
     match comment_end(text) {
         Some(count) => Front::Skips {
@@ -127,6 +131,7 @@ fn read_hash_line(text: &[u8]) -> Front
     requires { slice_index text.now 0 ≡ 35 }
     ensures value { result ≡ spec.hash_line text.now }
     ensures part { spec.IsFrontOf text.now result }
+    ensures lexical { spec.IsLexicalFront result }
 {
     let end = line_length(text);
     if is_include(&text[1..]) {
@@ -148,6 +153,7 @@ fn read_mark(text: &[u8]) -> Front
     requires { 1 ≤ length text.now }
     ensures value { result ≡ spec.mark (slice_index text.now 0) (slice_index text.now 1) }
     ensures part { spec.IsFrontOf text.now result }
+    ensures lexical { spec.IsLexicalFront result }
 {
     let byte = text[0];
     if let Some(mark) = long_mark(byte, byte_at(text, 1)) {
@@ -175,6 +181,7 @@ pub fn read_front(alloc: Global, fresh: bool, text: &[u8]) -> Result<Front, Allo
     requires { length text.now < 2 ^ 63 }
     ensures value { IfOk result (λ f. f ≡ spec.front fresh text.now) }
     ensures part { IfOk result (λ f. spec.IsFrontOf text.now f) }
+    ensures lexical { IfOk result spec.IsLexicalFront }
 {
     let [byte, rest @ ..] = text else {
         return Ok(Front::Over);

@@ -6,6 +6,7 @@ mod bytes;
 mod cut;
 mod fault;
 mod front;
+mod laws;
 mod marks;
 mod numbers;
 mod strings;
@@ -13,6 +14,6 @@ mod strings;
 mod tests;
 mod tokens;
 
-pub use cut::{lex, scan};
+pub use cut::lex;
 pub use fault::LexRefusal;
-pub use tokens::Scan;
+pub use laws::texts_have_one_cut;

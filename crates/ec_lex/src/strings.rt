@@ -47,7 +47,8 @@ pub fn closing(inside: &[u8]) -> Option<usize>
 }
 
 fn escape(byte: u8) -> Piece
-    ensures { result ≡ spec.escape byte }
+    ensures value { result ≡ spec.escape byte }
+    ensures lexical { spec.IsLexicalPiece result }
 {
     match byte {
         b'n' => Piece::Byte(b'\n'),
@@ -58,7 +59,8 @@ fn escape(byte: u8) -> Piece
 }
 
 fn piece_of(escaped: bool, byte: u8) -> Piece
-    ensures { result ≡ spec.piece escaped byte }
+    ensures value { result ≡ spec.piece escaped byte }
+    ensures lexical { spec.IsLexicalPiece result }
 {
     if escaped {
         escape(byte)
@@ -85,6 +87,7 @@ pub fn decode(alloc: Global, inside: &[u8]) -> Result<Decoded, AllocError>
     requires { length inside.now < 2 ^ 63 }
     ensures value { IfOk result (λ d. d ≡ spec.decoded false 1 inside.now) }
     ensures part { IfOk result (λ d. spec.IsWithin (length inside.now) d) }
+    ensures lexical { IfOk result spec.IsLexicalString }
 {
     let mut bytes = Vec::new(alloc);
     let mut escaped = false;

@@ -1,4 +1,6 @@
-use crate::cut::{lex, scan};
+use crate::cut::lex;
+use crate::fault::LexRefusal;
+use ec_base::Fail::{Memory, Refused};
 use ec_base::{MAX_SOURCE, Token, TokenKind};
 use std::alloc::Global;
 use std::test::Fail;
@@ -14,22 +16,28 @@ fn shown_token(alloc: Global, token: &Token) -> Result<String, Fail> {
     Ok(format!(in alloc; "{shown}@{}-{}", token.at.from, token.at.to)?)
 }
 
-/// The tokens with their spans, and the refusal after a `!`.
-fn shown(alloc: Global, text: &[u8]) -> Result<String, Fail> {
+fn shown_tokens(alloc: Global, tokens: &[Token]) -> Result<String, Fail> {
     let mut out = String::new(alloc);
-    if text.len() > MAX_SOURCE {
-        return Ok(out);
-    }
-    let scan = scan(alloc, text)?;
-    for token in scan.tokens.as_slice() {
+    for token in tokens {
         out.push_str(" ")?;
         out.push_str(shown_token(alloc, token)?.as_str())?;
     }
-    if let Some(refusal) = scan.refusal {
-        let last = format!(in alloc; " !{}@{}-{}", refusal.what, refusal.at.from, refusal.at.to)?;
-        out.push_str(last.as_str())?;
-    }
     Ok(out)
+}
+
+/// The tokens with their spans, or the refusal after a `!`.
+fn shown(alloc: Global, text: &[u8]) -> Result<String, Fail> {
+    if text.len() > MAX_SOURCE {
+        return Ok(String::new(alloc));
+    }
+    match lex(alloc, text) {
+        Ok(tokens) => shown_tokens(alloc, tokens.as_slice()),
+        Err(Refused(refusal)) => {
+            let LexRefusal { what, at } = refusal;
+            Ok(format!(in alloc; "!{what}@{}-{}", at.from, at.to)?)
+        }
+        Err(Memory) => Ok(String::from_str(alloc, "no memory")?),
+    }
 }
 
 const MARKS: &[u8] =
@@ -51,38 +59,38 @@ const TEXTS: &[(&[u8], &str)] = &[
         b"9223372036854775807",
         " 9223372036854775807@0-19 End@19-19",
     ),
-    (b"9223372036854775808", " !2@0-19"),
-    (b"0 10 007", " 0@0-1 10@2-4 !2@5-8"),
-    (b"x 1a+", " x@0-1 !2@2-4"),
+    (b"9223372036854775808", "!2@0-19"),
+    (b"0 10 007", "!2@5-8"),
+    (b"x 1a+", "!2@2-4"),
     (b"a//b\nc", " a@0-1 c@5-6 End@6-6"),
     (b"a/* * / \n **/b", " a@0-1 b@13-14 End@14-14"),
-    (b"/*/", " !3@0-3"),
-    (b"a /* b", " a@0-1 !3@2-6"),
+    (b"/*/", "!3@0-3"),
+    (b"a /* b", "!3@2-6"),
     (
         b"\"a\\n\\t\\\\\\\"%\"",
         " [97, 10, 9, 92, 34, 37]@0-12 End@12-12",
     ),
     (b"\"\x80\xff\"", " [128, 255]@0-4 End@4-4"),
-    (b"\"a\\", " !4@0-3"),
-    (b"\"\\q", " !4@0-3"),
-    (b"\"a\\\n\"", " !4@0-3"),
-    (b"\"a\x07\n", " !4@0-3"),
-    (b"\"\\q\"", " !5@1-3"),
-    (b"\"\\\x07\"", " !5@1-3"),
-    (b"\"a\x07b\"", " !1@2-3"),
-    (b"\"\x80\x7f\"", " !1@2-3"),
-    (b"a $", " a@0-1 !1@2-3"),
-    (b"\x80", " !1@0-1"),
+    (b"\"a\\", "!4@0-3"),
+    (b"\"\\q", "!4@0-3"),
+    (b"\"a\\\n\"", "!4@0-3"),
+    (b"\"a\x07\n", "!4@0-3"),
+    (b"\"\\q\"", "!5@1-3"),
+    (b"\"\\\x07\"", "!5@1-3"),
+    (b"\"a\x07b\"", "!1@2-3"),
+    (b"\"\x80\x7f\"", "!1@2-3"),
+    (b"a $", "!1@2-3"),
+    (b"\x80", "!1@0-1"),
     (b"#include <x\ny", " y@12-13 End@13-13"),
     (
         b"x\n \t# \tinclude\r<a> # $ \" /*\nz",
         " x@0-1 z@28-29 End@29-29",
     ),
-    (b"x #include <a>", " x@0-1 !1@2-3"),
-    (b"/* */ #include <a>", " !1@6-7"),
-    (b"#define x\n", " !6@0-9"),
-    (b" #include\n<a>", " !6@1-9"),
-    (b"#includes <a>", " !6@0-13"),
+    (b"x #include <a>", "!1@2-3"),
+    (b"/* */ #include <a>", "!1@6-7"),
+    (b"#define x\n", "!6@0-9"),
+    (b" #include\n<a>", "!6@1-9"),
+    (b"#includes <a>", "!6@0-13"),
 ];
 
 #[test]
@@ -90,13 +98,5 @@ fn texts_have_their_tokens_and_refusals(rt: HostRuntime) -> Result<(), Fail> {
     for (text, want) in TEXTS {
         assert_eq!(rt; shown(rt.alloc(), text)?.as_str(), *want);
     }
-    Ok(())
-}
-
-#[test]
-fn a_refusal_takes_the_tokens_along(rt: HostRuntime) -> Result<(), Fail> {
-    assert_eq!(rt; lex(rt.alloc(), b"f(0);")?.len(), 6);
-    let refused = lex(rt.alloc(), b"f(01);").err();
-    assert!(rt; matches!(&refused, Some(ec_base::Fail::Refused(refusal)) if refusal.what == 2));
     Ok(())
 }

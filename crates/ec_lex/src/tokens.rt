@@ -2,7 +2,7 @@
 use crate::fault::LexRefusal;
 use ec_base::{List, Token};
 
-/// The tokens of a text up to its first refusal, the `End` token last where there is none.
+/// The tokens of a text up to its first refusal, the end last where there is none.
 #[derive(Drop)]
 pub struct Scan {
     pub tokens: List<Token>,

@@ -1,6 +1,4 @@
-use Rattle.std.proofs.Common.{◌≡◌, true, false, [], ap, subst, sym, ◌∙◌, Some}
-use Rattle.ec_core.specs.Run.{run, start}
-use Rattle.ec_driver.specs.Kept.{choices}
+use Rattle.std.proofs.Common.{ap}
 use Rattle.ec_driver.proofs.Driving.{advanced, kept_progress, goes_on}
 use Rattle.ec_driver.proofs.drive.Progress.advance.Goals as goal
 
