@@ -1,0 +1,11 @@
+-- what the contract of `print` rests on
+pub mod Phrase
+pub mod Sentence
+pub mod Layout
+pub mod Canonical
+-- what the laws say
+pub mod Relexed
+pub mod Unplaced
+pub mod Again
+-- what the functions inside the crate promise each other
+pub mod Writing
