@@ -49,7 +49,8 @@ pub data Rises : ℕ → List Token → Type 0 where
   next : {from : ℕ} {x : Token} {rest : List Token} →
       is_end x.kind ≡ false → from ≤ x.at.from → x.at.from < x.at.to → Rises x.at.to rest → Rises from (x ∷ rest)
 
--- tokens of a text of at most 1,048,576 bytes, in order
+-- What holds of the tokens of each text of at most 1,048,576 bytes: there is at most one a byte and the end, they stand in
+-- order, and a text can give each of them.
 pub record AreTokens (tokens : List Token) : Type 0 where
   pub few : length tokens ≤ 1048577
   pub rising : Rises 0 tokens

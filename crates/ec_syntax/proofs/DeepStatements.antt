@@ -1,5 +1,5 @@
 -- Statements in the order in which they are read, given what they are made of one deeper.
-use Rattle.std.proofs.Common.{◌≡◌, refl, sym, subst, inl, inr, ◌-◌, ℕ, suc, Bool, true, ◌||◌, codes, arith}
+use Rattle.std.proofs.Common.{refl, inl, inr, ℕ, suc, Bool, true, ◌||◌, codes}
 use Rattle.ec_base.specs.declared.token.Mark.TheVariants as mk
 use Rattle.ec_base.specs.declared.token.Token.{Token}
 use Rattle.ec_syntax.specs.declared.expression.Expr.{Expr}
@@ -28,18 +28,6 @@ use Rattle.ec_syntax.proofs.StatementWords.{block_into, body_into, bare_into}
 
 -- ---- the language, with what is one deeper
 
-abbrev pub bare_below : ℕ → ℕ → ℕ → Language Stmt → Language Stmt → Language Stmt
-bare_below k n d sl body =
-    L.◌or◌ (LS.simple (suc n) d (expr k (suc d)))
-    (L.◌or◌ (L.placed LS.statement (LS.parallel d sl))
-    (L.◌or◌ (L.placed LS.statement (LS.choice d (expr k (suc d)) body))
-    (L.◌or◌ (L.placed LS.statement (LS.loop d (expr k (suc d)) body))
-    (L.◌or◌ (L.placed LS.statement (LS.for_loop d (assignment k (suc d)) (expr k (suc d)) body))
-    (L.placed LS.statement (LS.forall_loop d (assignment k (suc d)) (expr k (suc d)) body))))))
-
-one_below : (n : ℕ) → suc n - 1 ≡ n
-one_below n = omega arith
-
 -- what a statement's body may be
 abbrev pub body_of : ℕ → ℕ → Language Stmt
 body_of n d = body_words d (expr n (suc d)) (LS.stmt n (suc d)) (formed n Bare (suc d))
@@ -47,27 +35,21 @@ body_of n d = body_words d (expr n (suc d)) (LS.stmt n (suc d)) (formed n Bare (
 abbrev pub bare_of : ℕ → ℕ → Language Stmt
 bare_of n d = bare_words n d (expr n (suc d)) (assignment n (suc d)) (LS.stmt n (suc d)) (body_of n d)
 
-to_below : (n d : ℕ) → Into (bare_of n d) (bare_below n n d (LS.stmt n (suc d)) (body_of n d))
-to_below n d asked s a m (inl h) = inr (inl h)
-to_below n d asked s a m (inr (inl h)) = inr (inr (inl h))
-to_below n d asked s a m (inr (inr (inl h))) = inr (inr (inr (inl h)))
-to_below n d asked s a m (inr (inr (inr (inl h)))) = inr (inr (inr (inr (inl h))))
-to_below n d asked s a m (inr (inr (inr (inr (inl h))))) = inr (inr (inr (inr (inr h))))
-to_below n d asked s a m (inr (inr (inr (inr (inr h))))) = inl (simple_to (suc n) d (expr n (suc d)) asked s a m h)
-
-from_below : (n d : ℕ) → Into (bare_below n n d (LS.stmt n (suc d)) (body_of n d)) (bare_of n d)
-from_below n d asked s a m (inr (inl h)) = inl h
-from_below n d asked s a m (inr (inr (inl h))) = inr (inl h)
-from_below n d asked s a m (inr (inr (inr (inl h)))) = inr (inr (inl h))
-from_below n d asked s a m (inr (inr (inr (inr (inl h))))) = inr (inr (inr (inl h)))
-from_below n d asked s a m (inr (inr (inr (inr (inr h))))) = inr (inr (inr (inr (inl h))))
-from_below n d asked s a m (inl h) = inr (inr (inr (inr (inr (simple_from (suc n) d (expr n (suc d)) asked s a m h)))))
-
 pub to_formed : (n d : ℕ) → Into (bare_of n d) (formed (suc n) Bare d)
-to_formed n d asked s a m h = subst (λ k. bare_below k n d (LS.stmt n (suc d)) (body_of n d) asked s a m) (sym (one_below n)) (to_below n d asked s a m h)
+to_formed n d asked s a m (inl h) = inr (inl h)
+to_formed n d asked s a m (inr (inl h)) = inr (inr (inl h))
+to_formed n d asked s a m (inr (inr (inl h))) = inr (inr (inr (inl h)))
+to_formed n d asked s a m (inr (inr (inr (inl h)))) = inr (inr (inr (inr (inl h))))
+to_formed n d asked s a m (inr (inr (inr (inr (inl h))))) = inr (inr (inr (inr (inr h))))
+to_formed n d asked s a m (inr (inr (inr (inr (inr h))))) = inl (simple_to (suc n) d (expr n (suc d)) asked s a m h)
 
 pub from_formed : (n d : ℕ) → Into (formed (suc n) Bare d) (bare_of n d)
-from_formed n d asked s a m h = from_below n d asked s a m (subst (λ k. bare_below k n d (LS.stmt n (suc d)) (body_of n d) asked s a m) (one_below n) h)
+from_formed n d asked s a m (inr (inl h)) = inl h
+from_formed n d asked s a m (inr (inr (inl h))) = inr (inl h)
+from_formed n d asked s a m (inr (inr (inr (inl h)))) = inr (inr (inl h))
+from_formed n d asked s a m (inr (inr (inr (inr (inl h))))) = inr (inr (inr (inl h)))
+from_formed n d asked s a m (inr (inr (inr (inr (inr h))))) = inr (inr (inr (inr (inl h))))
+from_formed n d asked s a m (inl h) = inr (inr (inr (inr (inr (simple_from (suc n) d (expr n (suc d)) asked s a m h)))))
 
 -- ---- tests
 

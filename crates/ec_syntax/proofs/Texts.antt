@@ -1,7 +1,6 @@
 -- The tokens of a text: the last of them and no other is the end, which only ends programs.
 use Rattle.std.proofs.Common.{◌≡◌, refl, ap, sym, ◌∙◌, ℕ, Bool, true, false, not, ◌&&◌, true≢false, List, [], ◌∷◌, ◌++◌, Some, is_some}
 use Rattle.ec_base.specs.Lexical.{Rises}
-use Rattle.ec_base.specs.Lexical as lexical
 use Rattle.ec_base.specs.declared.token.Span.{Span}
 use Rattle.ec_base.specs.declared.token.Token.{Token}
 use Rattle.ec_base.specs.declared.token.TokenKind.{TokenKind}
@@ -37,22 +36,12 @@ same_head {x = x} e = ap (head_of x) e
 
 -- ---- the end
 
-end_kind : (x : Token) → lexical.is_end x.kind ≡ is_end x
-end_kind x = by x.kind refl
-  where
-    by : (kind : TokenKind) → x.kind ≡ kind → lexical.is_end x.kind ≡ is_end x
-    by t.End e = rw e refl
-    by (t.Word w) e = rw e refl
-    by (t.Number n) e = rw e refl
-    by (t.Str s) e = rw e refl
-    by (t.Mark k) e = rw e refl
-
 -- behind the end of a text stands nothing
 pub rises_end : {from : ℕ} {ts : List Token} → Rises from ts → (w : List Token) (x : Token) (rest : List Token) → ts ≡ w ++ x ∷ rest → is_end x ≡ true → rest ≡ []
 rises_end (Rises.last e small at) [] x rest eq h = sym (same_tail eq)
 rises_end (Rises.last e small at) (y ∷ []) x rest eq h = absurd (cons_nil (sym (same_tail eq)))
 rises_end (Rises.last e small at) (y ∷ z ∷ w) x rest eq h = absurd (cons_nil (sym (same_tail eq)))
-rises_end (Rises.next {x = y} e small at r) [] x rest eq h = absurd (true≢false (sym h ∙ ap is_end (sym (same_head eq)) ∙ sym (end_kind y) ∙ e))
+rises_end (Rises.next {x = y} e small at r) [] x rest eq h = absurd (true≢false (sym h ∙ ap is_end (sym (same_head eq)) ∙ e))
 rises_end (Rises.next e small at r) (y ∷ w) x rest eq h = rises_end r w x rest (same_tail eq) h
 
 -- its last token is the end
@@ -63,7 +52,7 @@ pub record Ended (ts : List Token) : Type 0 where
   pub ends : is_end last ≡ true
 
 pub rises_last : {from : ℕ} {ts : List Token} → Rises from ts → Ended ts
-rises_last (Rises.last {x = x} e small at) = record { front = []; last = x; is = refl; ends = sym (end_kind x) ∙ e }
+rises_last (Rises.last {x = x} e small at) = record { front = []; last = x; is = refl; ends = e }
 rises_last (Rises.next {x = x} e small at r) =
     let k = rises_last r in
     record { front = x ∷ k.front; last = k.last; is = ap (λ l. x ∷ l) k.is; ends = k.ends }

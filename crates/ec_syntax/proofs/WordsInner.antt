@@ -212,7 +212,7 @@ formed_inner : (nested : ℕ) (form : S.Form) (d : ℕ) → Inner (S.formed nest
 formed_inner zero form d = inner_never
 formed_inner (suc nested) S.Form.Braced d = block_inner d _ _ (expr_inner nested (suc d)) (inner_or (formed_inner nested S.Form.Braced (suc d)) (formed_inner nested S.Form.Bare (suc d)))
 formed_inner (suc nested) S.Form.Bare d =
-    bare_inner (suc nested) d _ _ (inner_or (formed_inner nested S.Form.Braced (suc d)) (formed_inner nested S.Form.Bare (suc d)))
+    bare_inner nested d _ _ (inner_or (formed_inner nested S.Form.Braced (suc d)) (formed_inner nested S.Form.Bare (suc d)))
     (inner_or (block_inner d _ _ (expr_inner nested (suc d)) (inner_or (formed_inner nested S.Form.Braced (suc d)) (formed_inner nested S.Form.Bare (suc d)))) (formed_inner nested S.Form.Bare (suc d)))
 
 stmt_inner : (nested d : ℕ) → Inner (S.stmt nested d)

@@ -1,5 +1,5 @@
 -- Declarations and statements.
-use Rattle.std.specs.Prelude.{ℕ, zero, suc, ◌-◌, codes, List, [], ◌∷◌, ◌++◌, length, Some, None, pos}
+use Rattle.std.specs.Prelude.{ℕ, zero, suc, codes, List, [], ◌∷◌, ◌++◌, length, Some, None, pos}
 use Rattle.ec_base.specs.declared.operator.BinOp.{BinOp}
 use Rattle.ec_base.specs.declared.operator.BinOp.TheVariants.{Add, Sub}
 use Rattle.ec_base.specs.declared.token.Mark.TheVariants as m
@@ -163,21 +163,18 @@ forall_loop d set test body = word d (codes "forall") >> (header d head >>= (λ 
 abbrev pub block : ℕ → Language Expr → Language Stmt → Language Stmt
 block d value stmt = placed statement (braces d value stmt >>= (λ b. give (Block b)))
 
--- a statement that isn't one in braces, given the statements one deeper and its bodies
+-- A statement that isn't one in braces, given the statements one deeper and its bodies. What it holds is nested at most so often.
 abbrev pub bare : ℕ → ℕ → Language Stmt → Language Stmt → Language Stmt
 bare nested d stmt body =
-    simple nested d inner
+    simple (suc nested) d inner
     or placed statement (parallel d stmt)
     or placed statement (choice d inner body)
     or placed statement (loop d inner body)
-    or placed statement (for_loop d (assignment below (suc d)) inner body)
-    or placed statement (forall_loop d (assignment below (suc d)) inner body)
+    or placed statement (for_loop d (assignment nested (suc d)) inner body)
+    or placed statement (forall_loop d (assignment nested (suc d)) inner body)
   where
-    below : ℕ
-    below = nested - 1
-
     inner : Language Expr
-    inner = expr below (suc d)
+    inner = expr nested (suc d)
 
 -- whether a statement stands in braces
 pub data Form : Type 0 where
@@ -189,7 +186,7 @@ abbrev pub formed : ℕ → Form → ℕ → Language Stmt
 formed zero form d = never
 formed (suc nested) Braced d = block d (expr nested (suc d)) (formed nested Braced (suc d) or formed nested Bare (suc d))
 formed (suc nested) Bare d =
-    bare (suc nested) d (formed nested Braced (suc d) or formed nested Bare (suc d))
+    bare nested d (formed nested Braced (suc d) or formed nested Bare (suc d))
     (block d (expr nested (suc d)) (formed nested Braced (suc d) or formed nested Bare (suc d)) or formed nested Bare (suc d))
 
 abbrev pub stmt : ℕ → ℕ → Language Stmt

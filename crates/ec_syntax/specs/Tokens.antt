@@ -1,5 +1,6 @@
 -- Single tokens, at a depth.
 use Rattle.std.specs.Prelude.{ℕ, ℤ, suc, ◌==◌, Bool, true, false, List, [], ◌∷◌, length, Option, Some, None, if◌then◌else◌}
+use Rattle.ec_base.specs.Lexical as lexical
 use Rattle.ec_base.specs.declared.token.Mark.{Mark}
 use Rattle.ec_base.specs.declared.token.Mark.TheVariants as m
 use Rattle.ec_base.specs.declared.token.Token.{Token}
@@ -93,11 +94,7 @@ string_of x = of_kind x.kind
     of_kind _ = None
 
 abbrev pub is_end : Token → Bool
-is_end x = is_kind x.kind
-  where
-    is_kind : TokenKind → Bool
-    is_kind t.End = true
-    is_kind _ = false
+is_end x = lexical.is_end x.kind
 
 -- ---- tokens of programs
 
