@@ -1,0 +1,13 @@
+pub mod Stopping
+pub mod Declaring
+pub mod Whole
+pub mod Reserved
+pub mod Turns
+pub mod Rooms
+pub mod Factors
+pub mod Limits
+pub mod Stmts
+pub mod Local
+pub mod Asking
+pub mod Brace
+pub mod Once

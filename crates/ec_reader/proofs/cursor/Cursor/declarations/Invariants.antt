@@ -1,0 +1,16 @@
+use Rattle.std.proofs.Common.{◌≤◌, [], length}
+use Rattle.ec_syntax.specs.Reader.{turns}
+use Rattle.ec_syntax.specs.ReadTokens.{begins_declaration}
+use Rattle.ec_syntax.specs.ReadExpressions.{expr}
+use Rattle.ec_syntax.specs.ReadStatements.{declaration}
+use Rattle.ec_reader.specs.Going.{Going}
+use Rattle.ec_reader.proofs.cursor.Cursor.declarations.Given as goal
+
+abbrev pub invariant-loop-alloc : goal.invariant-loop-alloc
+invariant-loop-alloc l = record {
+  stays : length l.self.left ≤ length l.fn.self.left;
+  goes : Going begins_declaration (declaration (expr l.fn.room)) (turns begins_declaration (declaration (expr l.fn.room)) [] l.fn.self) l.all l.self;
+}
+
+abbrev pub decreases-loop-alloc : goal.decreases-loop-alloc
+decreases-loop-alloc l = length l.self.left

@@ -1,0 +1,15 @@
+use Rattle.std.proofs.Common.{sym, ◌∙◌}
+use Rattle.std.proofs.lemmas.Result.{err_from_is_err_and}
+use Rattle.ec_syntax.specs.ReadItems.{begins_item}
+use Rattle.ec_reader.specs.Another.{another_item}
+use Rattle.ec_reader.proofs.Turns.{going_over}
+use Rattle.ec_reader.proofs.Stopping.{told_stops}
+use Rattle.ec_reader.proofs.cursor.Cursor.items.Goals as goal
+
+pub returns-in_err-all-clause-answer : goal.returns-in_err-all-clause-answer
+returns-in_err-all-clause-answer c =
+    let p = err_from_is_err_and c.from_residual.result c.from_residual.ensures.1 in
+    rw (p.1, p.2) (told_stops begins_item (another_item c.args.room) c.in_err-all.field-0.0 c.another_item.new.self c.loop-alloc.invariant.goes (sym c.begins_base.ensures ∙ c.loop-alloc-test.true) c.in_err-all.ensures.answer)
+
+pub returns-clause-answer : goal.returns-clause-answer
+returns-clause-answer c = going_over begins_item (another_item c.args.room) c.loop-alloc.invariant.goes (sym c.begins_base.ensures ∙ c.loop-alloc-test.false)

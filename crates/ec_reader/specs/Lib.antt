@@ -1,0 +1,9 @@
+pub mod Another
+pub mod Answers
+pub mod Going
+pub mod Operators
+pub mod Inside
+pub mod Counting
+pub mod Sentences
+pub mod Refusals
+pub mod Laws
