@@ -48,10 +48,10 @@ quiet_name w free y e = ap (λ z. is_else (token_of z y.at)) e ∙ name_not_else
 
 -- ---- what is written of a step
 
-var_said : (w : List ℕ) (at : Span) → S.expression (E.expression (v.Var w) at) ≡ S.word w
+pub var_said : (w : List ℕ) (at : Span) → S.expression (E.expression (v.Var w) at) ≡ S.word w
 var_said w at = said (v.Var w) at ∙ tree.var_fold S.of_kind S.of_place S.of_call S.of_expression w
 
-one_said : (at : Span) → S.expression (E.expression (v.Number (pos 1)) at) ≡ token (t.Number (pos 1))
+pub one_said : (at : Span) → S.expression (E.expression (v.Number (pos 1)) at) ≡ token (t.Number (pos 1))
 one_said at = said (v.Number (pos 1)) at ∙ tree.number_fold S.of_kind S.of_place S.of_call S.of_expression (pos 1)
 
 step_said : (o : BinOp) (x : Name) → tokens (S.assignment (Z.stepped o x)) ≡ t.Word x.text ∷ (t.Mark m.Assign ∷ (t.Word x.text ∷ (t.Mark (S.infix_mark o) ∷ (t.Number (pos 1) ∷ []))))

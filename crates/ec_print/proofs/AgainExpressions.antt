@@ -135,14 +135,14 @@ module _ (d : ℕ) (l l' : Language Expr) (H : Operands l l') where
 -- ---- prefixes
 
 -- what is made of an operand is written with this mark before it
-record Prefixed (k : Mark) (make : Expr → ExprKind) : Type 0 where
-  written : (a : Expr) → phrase (make a) ≡ (S.mark k then S.expression a)
+pub record Prefixed (k : Mark) (make : Expr → ExprKind) : Type 0 where
+  pub written : (a : Expr) → phrase (make a) ≡ (S.mark k then S.expression a)
   alike : (a' a : Expr) → U.expression a' ≡ U.expression a → U.kind (make a') ≡ U.kind (make a)
 
 prefixed_by : (k : Mark) (other make : Expr → ExprKind) → Prefixed k other → Some other ≡ Some make → Prefixed k make
 prefixed_by k other make f e = let same : other ≡ make = cc in subst (λ z. Prefixed k z) same f
 
-prefixed : (k : Mark) (make : Expr → ExprKind) → prefix_of k ≡ Some make → Prefixed k make
+pub prefixed : (k : Mark) (make : Expr → ExprKind) → prefix_of k ≡ Some make → Prefixed k make
 prefixed m.Minus make e = prefixed_by m.Minus (v.Unary Neg) make (record { written = tree.unary_fold S.of_kind S.of_place S.of_call S.of_expression Neg; alike = λ a' a h. unary_alike a' a h Neg }) e
 prefixed m.Bang make e = prefixed_by m.Bang (v.Unary Not) make (record { written = tree.unary_fold S.of_kind S.of_place S.of_call S.of_expression Not; alike = λ a' a h. unary_alike a' a h Not }) e
 prefixed m.Tilde make e = prefixed_by m.Tilde (v.Unary Inv) make (record { written = tree.unary_fold S.of_kind S.of_place S.of_call S.of_expression Inv; alike = λ a' a h. unary_alike a' a h Inv }) e

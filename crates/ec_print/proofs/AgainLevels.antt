@@ -23,8 +23,8 @@ use Rattle.ec_print.proofs.AgainFolds.{phrase, said, seen, binary_alike, and_ali
 use Rattle.ec_print.proofs.AgainTrees as tree
 
 -- what is made of two operands is written with this mark between them
-record Infixed (k : Mark) (make : Expr → Expr → ExprKind) : Type 0 where
-  written : (a b : Expr) → phrase (make a b) ≡ (S.expression a then S.mark k then S.expression b)
+pub record Infixed (k : Mark) (make : Expr → Expr → ExprKind) : Type 0 where
+  pub written : (a b : Expr) → phrase (make a b) ≡ (S.expression a then S.mark k then S.expression b)
   alike : (a' a : Expr) → U.expression a' ≡ U.expression a → (b' b : Expr) → U.expression b' ≡ U.expression b → U.kind (make a' b') ≡ U.kind (make a b)
 
 binary : (o : BinOp) → Infixed (S.infix_mark o) (Binary o)
@@ -34,7 +34,7 @@ pick : (k : Mark) (b : Bool) (other make : Expr → Expr → ExprKind) → Infix
 pick k true other make f e = let same : other ≡ make = cc in subst (λ z. Infixed k z) same f
 pick k false other make f e = absurd (cc)
 
-infixed : (k : Mark) (level : ℕ) (make : Expr → Expr → ExprKind) → at_level level k ≡ Some make → Infixed k make
+pub infixed : (k : Mark) (level : ℕ) (make : Expr → Expr → ExprKind) → at_level level k ≡ Some make → Infixed k make
 infixed m.Star level make e = pick m.Star (0 == level) (Binary op.Mul) make (binary op.Mul) e
 infixed m.Slash level make e = pick m.Slash (0 == level) (Binary op.Div) make (binary op.Div) e
 infixed m.Percent level make e = pick m.Percent (0 == level) (Binary op.Rem) make (binary op.Rem) e

@@ -66,14 +66,14 @@ chosen_mark {A} pick x a h = by x.kind refl h
 
 -- ---- numbers and strings
 
-number_kind : (x : Token) (z : ℤ) → number_of x ≡ Some z → x.kind ≡ t.Number z
+pub number_kind : (x : Token) (z : ℤ) → number_of x ≡ Some z → x.kind ≡ t.Number z
 number_kind x z h = by x.kind refl h
   where
     by : (kind : TokenKind) → x.kind ≡ kind → number_of (token_of kind x.at) ≡ Some z → x.kind ≡ t.Number z
     by (t.Number w) e g = let same : w ≡ z = cc in e ∙ ap t.Number same
     by _ e g = absurd (true≢false (sym (ap is_some g)))
 
-string_kind : (x : Token) (z : List ℕ) → string_of x ≡ Some z → x.kind ≡ t.Str z
+pub string_kind : (x : Token) (z : List ℕ) → string_of x ≡ Some z → x.kind ≡ t.Str z
 string_kind x z h = by x.kind refl h
   where
     by : (kind : TokenKind) → x.kind ≡ kind → string_of (token_of kind x.at) ≡ Some z → x.kind ≡ t.Str z

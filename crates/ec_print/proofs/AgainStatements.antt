@@ -1,59 +1,36 @@
 -- Statements, read again.
-use Rattle.std.proofs.Common.{◌≡◌, subst, inl, inr, arith, ℕ, zero, suc, ◌-◌, false}
+use Rattle.std.proofs.Common.{inl, inr, ℕ, zero, suc}
 use Rattle.ec_syntax.specs.Expressions as E
 use Rattle.ec_syntax.specs.Language as L
 use Rattle.ec_syntax.specs.Language.{Language}
 use Rattle.ec_syntax.specs.Statements as Z
 use Rattle.ec_syntax.specs.Statements.Form.{Braced, Bare}
-use Rattle.ec_syntax.specs.declared.statement.Assign.{Assign}
 use Rattle.ec_syntax.specs.declared.statement.Stmt.{Stmt}
-use Rattle.ec_print.specs.Sentence as S
-use Rattle.ec_print.specs.Unplaced as U
 use Rattle.ec_print.proofs.Again.{as_language}
-use Rattle.ec_print.proofs.AgainLevels.{Operands}
-use Rattle.ec_print.proofs.AgainCalls.{Mirrors}
 use Rattle.ec_print.proofs.AgainExpressions.{expr_again}
 use Rattle.ec_print.proofs.AgainAssign.{assignment_again}
 use Rattle.ec_print.proofs.AgainSimple.{statement_again, simple_again}
 use Rattle.ec_print.proofs.AgainBodies.{Statements, block_again, parallel_again, choice_again}
 use Rattle.ec_print.proofs.AgainLoops.{while_again, for_again, forall_again}
 
-one_less : (k : ℕ) → k ≡ suc k - 1
-one_less k = omega arith
-
-below_expr : (n d : ℕ) → Operands (E.expr (suc n - 1) d) (E.expr (suc (suc n) - 1) d)
-below_expr n d = subst (λ k. Operands (E.expr k d) (E.expr (suc (suc n) - 1) d)) (one_less n) (subst (λ k. Operands (E.expr n d) (E.expr k d)) (one_less (suc n)) (expr_again n d))
-
-abbrev Sets : Language Assign → Language Assign → Type 0
-Sets l l' = Mirrors false S.assignment U.assignment (L.part l) (L.part l')
-
-below_set : (n d : ℕ) → Sets (Z.assignment (suc n - 1) d) (Z.assignment (suc (suc n) - 1) d)
-below_set n d = subst (λ k. Sets (Z.assignment k d) (Z.assignment (suc (suc n) - 1) d)) (one_less n) (subst (λ k. Sets (Z.assignment n d) (Z.assignment k d)) (one_less (suc n)) (assignment_again n d))
-
 module _ (n d : ℕ) (st st' : Language Stmt) (G : Statements st st') (body body' : Language Stmt) (B : Statements body body') where
-  abbrev low : ℕ
-  low = suc n - 1
-
-  abbrev high : ℕ
-  high = suc (suc n) - 1
-
-  bare_again : Statements (Z.bare (suc n) d st body) (Z.bare (suc (suc n)) d st' body')
-  bare_again s a o (inl r) = as_language (λ t b n r. inl r) (simple_again (suc n) d (E.expr low (suc d)) (E.expr high (suc d)) (below_expr n (suc d)) s a o r)
+  bare_again : Statements (Z.bare n d st body) (Z.bare (suc n) d st' body')
+  bare_again s a o (inl r) = as_language (λ t b n r. inl r) (simple_again (suc n) d (E.expr n (suc d)) (E.expr (suc n) (suc d)) (expr_again n (suc d)) s a o r)
   bare_again s a o (inr (inl r)) = as_language (λ t b n r. inr (inl r)) (statement_again (Z.parallel d st) (Z.parallel d st') (parallel_again d st st' G) s a o r)
   bare_again s a o (inr (inr (inl r))) =
       as_language (λ t b n r. inr (inr (inl r)))
-      (statement_again (Z.choice d (E.expr low (suc d)) body) (Z.choice d (E.expr high (suc d)) body') (choice_again d (E.expr low (suc d)) (E.expr high (suc d)) (below_expr n (suc d)) body body' B) s a o r)
+      (statement_again (Z.choice d (E.expr n (suc d)) body) (Z.choice d (E.expr (suc n) (suc d)) body') (choice_again d (E.expr n (suc d)) (E.expr (suc n) (suc d)) (expr_again n (suc d)) body body' B) s a o r)
   bare_again s a o (inr (inr (inr (inl r)))) =
       as_language (λ t b n r. inr (inr (inr (inl r))))
-      (statement_again (Z.loop d (E.expr low (suc d)) body) (Z.loop d (E.expr high (suc d)) body') (while_again d (E.expr low (suc d)) (E.expr high (suc d)) (below_expr n (suc d)) body body' B) s a o r)
+      (statement_again (Z.loop d (E.expr n (suc d)) body) (Z.loop d (E.expr (suc n) (suc d)) body') (while_again d (E.expr n (suc d)) (E.expr (suc n) (suc d)) (expr_again n (suc d)) body body' B) s a o r)
   bare_again s a o (inr (inr (inr (inr (inl r))))) =
       as_language (λ t b n r. inr (inr (inr (inr (inl r)))))
-      (statement_again (Z.for_loop d (Z.assignment low (suc d)) (E.expr low (suc d)) body) (Z.for_loop d (Z.assignment high (suc d)) (E.expr high (suc d)) body')
-      (for_again d (Z.assignment low (suc d)) (Z.assignment high (suc d)) (below_set n (suc d)) (E.expr low (suc d)) (E.expr high (suc d)) (below_expr n (suc d)) body body' B) s a o r)
+      (statement_again (Z.for_loop d (Z.assignment n (suc d)) (E.expr n (suc d)) body) (Z.for_loop d (Z.assignment (suc n) (suc d)) (E.expr (suc n) (suc d)) body')
+      (for_again d (Z.assignment n (suc d)) (Z.assignment (suc n) (suc d)) (assignment_again n (suc d)) (E.expr n (suc d)) (E.expr (suc n) (suc d)) (expr_again n (suc d)) body body' B) s a o r)
   bare_again s a o (inr (inr (inr (inr (inr r))))) =
       as_language (λ t b n r. inr (inr (inr (inr (inr r)))))
-      (statement_again (Z.forall_loop d (Z.assignment low (suc d)) (E.expr low (suc d)) body) (Z.forall_loop d (Z.assignment high (suc d)) (E.expr high (suc d)) body')
-      (forall_again d (Z.assignment low (suc d)) (Z.assignment high (suc d)) (below_set n (suc d)) (E.expr low (suc d)) (E.expr high (suc d)) (below_expr n (suc d)) body body' B) s a o r)
+      (statement_again (Z.forall_loop d (Z.assignment n (suc d)) (E.expr n (suc d)) body) (Z.forall_loop d (Z.assignment (suc n) (suc d)) (E.expr (suc n) (suc d)) body')
+      (forall_again d (Z.assignment n (suc d)) (Z.assignment (suc n) (suc d)) (assignment_again n (suc d)) (E.expr n (suc d)) (E.expr (suc n) (suc d)) (expr_again n (suc d)) body body' B) s a o r)
 
 either_again : (l l' k k' : Language Stmt) → Statements l l' → Statements k k' → Statements (L.◌or◌ l k) (L.◌or◌ l' k')
 either_again l l' k k' H G s a n (inl r) = as_language (λ t b n r. inl r) (H s a n r)

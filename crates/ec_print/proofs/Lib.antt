@@ -28,3 +28,9 @@ pub mod Relexed
 pub mod RelexedMarks
 pub mod RelexedStrings
 pub mod RelexedWords
+pub mod RoundTrip
+pub mod Spellable
+pub mod SpellableExpressions
+pub mod SpellablePrograms
+pub mod SpellableStatements
+pub mod SpellableTokens

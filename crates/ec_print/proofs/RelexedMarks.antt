@@ -74,7 +74,8 @@ no_longer (x ∷ []) b rest some blank longer c l begins =
     second x b rest longer begins.0 blank (each (λ o. not (is_blank (slice_index o 1))) openings longer refl c) l begins.1
 no_longer (x ∷ y ∷ part) b rest some blank longer c l begins = absurd (omega (arith, l, leb-true (length longer) 2 (each (λ o. nat_le (length o) 2) openings longer refl c)))
 
+pub spelling_some : (k : Mark) → 1 ≤ length (spelling k)
+spelling_some k = leb-true 1 (length (spelling k)) (each (λ (u : List ℕ × Mark). nat_le 1 (length u.0)) (marks_of_two_bytes ++ marks_of_one_byte) (spelling k, k) refl (in_tables k))
+
 pub mark_is : (k : Mark) (b : ℕ) (rest : List ℕ) → is_blank b ≡ true → IsSpelled (spelling k) (b ∷ rest) (t.Mark k)
-mark_is k b rest blank =
-    let some : 1 ≤ length (spelling k) = leb-true 1 (length (spelling k)) (each (λ (u : List ℕ × Mark). nat_le 1 (length u.0)) (marks_of_two_bytes ++ marks_of_one_byte) (spelling k, k) refl (in_tables k)) in
-    spec.mark (in_tables k) (no_longer (spelling k) b rest some blank)
+mark_is k b rest blank = spec.mark (in_tables k) (no_longer (spelling k) b rest (spelling_some k) blank)

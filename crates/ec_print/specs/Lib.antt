@@ -7,5 +7,6 @@ pub mod Canonical
 pub mod Relexed
 pub mod Unplaced
 pub mod Again
+pub mod RoundTrip
 -- what the functions inside the crate promise each other
 pub mod Writing

@@ -1,6 +1,6 @@
 //! The canonical text of a program. `specs/Sentence.antt` says which tokens it has, and `specs/Layout.antt` how they stand
-//! in lines. `specs/Relexed.antt` says that the text of tokens that a source can give is cut into them again, and
-//! `specs/Again.antt` that the sentence of a program that was read is read as that program.
+//! in lines. `specs/RoundTrip.antt` says that of the text of a program that was read the same program is read: the text is
+//! cut into the tokens of the sentence (`specs/Relexed.antt`), and these are read as that program (`specs/Again.antt`).
 #![tactic(auto)]
 
 ghost use Rattle.std.specs.Prelude.{◌≡◌, IfOk};
@@ -15,7 +15,7 @@ mod statement;
 use crate::printer::Printer;
 use ec_base::{NoMemory, Text};
 use ec_syntax::Program;
-pub use laws::{printed_text_is_cut, sentence_reads_again};
+pub use laws::{printed_text_is_cut, printed_text_is_read_again, sentence_reads_again};
 use std::alloc::Global;
 
 /// The canonical text of a program: the tokens of its sentence, without `++`, `--`, `(void)` and lists of declarators or
