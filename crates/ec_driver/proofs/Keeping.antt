@@ -21,7 +21,7 @@ use Rattle.ec_driver.specs.Command.{run_of}
 use Rattle.ec_driver.specs.Drive.{IsProgress, IsStopped}
 use Rattle.ec_driver.specs.Kept.{IsLast, IsSpent, IsWithin, choices}
 use Rattle.ec_driver.specs.Lines.{line_of}
-use Rattle.ec_driver.specs.Report.{HasRun, IsPlain, Keeps, RunsOrStops, SaysLast}
+use Rattle.ec_driver.specs.Report.{HasRun, IsPlain, Keeps, RunsOrFails, SaysLast}
 use Rattle.ec_driver.specs.Said.{Grew, Says, Stream, joined, pieces_of, said_of, said_world}
 use Rattle.ec_driver.specs.Source.{IsText}
 use Rattle.ec_driver.proofs.Units.{each_within, eu_is, su_is}
@@ -38,7 +38,7 @@ pub record Finished (p : Program) (code : Code) (x : Progress) (report : Report)
   pub cut : code ≡ code_of p
   pub progress : IsProgress code x
   pub stopped : IsStopped x
-  pub status : RunsOrStops report.status
+  pub status : RunsOrFails report.status
   pub write : report.status ≡ WriteFault → Rose out.faults_old out.faults_new ⊎ Rose err.faults_old err.faults_new
   pub code_is : report.code ≡ Some code
   pub run_is : report.run ≡ Some (kept_run x)
@@ -54,7 +54,7 @@ some_eq x y e = cc
 
 -- ---- what is said
 
-joined_pieces : (bytes : List ℕ) → joined (pieces_of bytes) ≡ bytes
+pub joined_pieces : (bytes : List ℕ) → joined (pieces_of bytes) ≡ bytes
 joined_pieces [] = refl
 joined_pieces (b ∷ bytes) = append-nil (b ∷ bytes)
 

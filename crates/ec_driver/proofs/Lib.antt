@@ -4,7 +4,8 @@ pub mod Units
 pub mod LongTexts
 pub mod Keeping
 pub mod Unique
+pub mod Once
 pub mod Reports
 pub mod Bare
-pub mod Checked
+pub mod Unrun
 pub mod Ends

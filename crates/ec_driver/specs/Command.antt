@@ -3,7 +3,7 @@ use Rattle.std.specs.Prelude.{◌≡◌, ℕ, ◌==◌, ◌&&◌, not, nat_lt, B
 use Rattle.std.specs.List.{ends_with}
 use Rattle.std.specs.Cmp.Lexicographic.{pointwise}
 use Rattle.ec_driver.specs.declared.command.Command.{Command}
-use Rattle.ec_driver.specs.declared.command.Command.TheVariants.{Check, Run}
+use Rattle.ec_driver.specs.declared.command.Command.TheVariants.{Check, Print, Run}
 use Rattle.ec_driver.specs.declared.command.RunWords.{RunWords}
 use Rattle.ec_driver.specs.declared.command.WordsRefusal.{WordsRefusal}
 
@@ -25,7 +25,10 @@ run_of file = record { file = file; args = []; nodes = 1; steps = 1048576; memor
 -- the command of this name for a file
 abbrev pub told_name : List ℕ → List ℕ → Result Command WordsRefusal
 told_name name file =
-    if same name (codes "check") then Ok (Check file) else (if same name (codes "run") then Ok (Run (run_of file)) else Err (record {}))
+    if same name (codes "check") then Ok (Check file)
+    else (if same name (codes "print") then Ok (Print file)
+    else (if same name (codes "run") then Ok (Run (run_of file))
+    else Err (record {})))
 
 -- the command of two words
 abbrev pub told_pair : List ℕ → List ℕ → Result Command WordsRefusal
@@ -46,10 +49,6 @@ IsNoCommand words = told_command words ≡ Err (record {})
 abbrev pub IsCommand : List (List ℕ) → Command → Type 0
 IsCommand words c = told_command words ≡ Ok c
 
--- the words are `check` with this file
-abbrev pub IsCheck : List (List ℕ) → List ℕ → Type 0
-IsCheck words file = told_command words ≡ Ok (Check file)
-
 -- the words are `run` with these words of its own
 abbrev pub IsRun : List (List ℕ) → RunWords → Type 0
 IsRun words r = told_command words ≡ Ok (Run r)
@@ -61,13 +60,16 @@ IsGiven c = (words : List (List ℕ)) × (told_command words ≡ Ok c)
 -- the file that a command reads
 abbrev pub file_of : Command → List ℕ
 file_of (Check file) = file
+file_of (Print file) = file
 file_of (Run r) = r.file
 
 -- a command that runs a program, and one that doesn't
 abbrev pub ForThreaded : Command → Type 0
 ForThreaded (Check file) = ⊥
+ForThreaded (Print file) = ⊥
 ForThreaded (Run r) = Unit {0}
 
 abbrev pub ForPlain : Command → Type 0
 ForPlain (Check file) = Unit {0}
+ForPlain (Print file) = Unit {0}
 ForPlain (Run r) = ⊥

@@ -3,6 +3,7 @@ use Rattle.std.specs.Prelude.{ℕ, ◌==◌, if◌then◌else◌, List, [], ◌+
 use Rattle.std.specs.Fmt.{decimal, signed_decimal}
 use Rattle.ec_base.specs.declared.token.Span.{Span}
 use Rattle.ec_lex.specs.declared.fault.LexRefusal.{LexRefusal}
+use Rattle.ec_reader.specs.declared.refusal.ReadRefusal.{ReadRefusal}
 use Rattle.ec_driver.specs.declared.status.Refusal.{Refusal}
 use Rattle.ec_driver.specs.declared.status.Status.{Status}
 use Rattle.ec_driver.specs.declared.status.Status.TheVariants.{Done, WordsRefused, SourceRefused, StepsSpent, ReadFault, WriteFault, NoMemory}
@@ -21,9 +22,13 @@ number_of NoMemory = 7
 abbrev pub place : Span → List ℕ
 place at = decimal at.from ++ codes ".." ++ decimal at.to
 
--- the refusals that there are: a fault at which there is no token, a text that is too long, and a form that isn't built yet
+-- the refusals that there are: a fault at which there is no token, a token at which there is no program, a text that is too
+-- long, and a form that isn't built yet
 abbrev pub not_token : LexRefusal → Refusal
 not_token r = record { what = r.what; at = r.at; other = None }
+
+abbrev pub not_program : ReadRefusal → Refusal
+not_program r = record { what = r.what; at = r.at; other = None }
 
 abbrev pub too_long : Refusal
 too_long = record { what = 7; at = record { from = 1048576; to = 1048577 }; other = None }
@@ -41,7 +46,10 @@ name_of n =
     else (if n == 5 then codes "BadEscape"
     else (if n == 6 then codes "HashLine"
     else (if n == 7 then codes "TooLong"
-    else codes "NotYet"))))))
+    else (if n == 10 then codes "Expected"
+    else (if n == 11 then codes "TooDeep"
+    else (if n == 12 then codes "TooMany"
+    else codes "NotYet")))))))))
 
 abbrev pub result_line : ℤ → List ℕ
 result_line n = codes "result " ++ signed_decimal n ++ codes "\n"

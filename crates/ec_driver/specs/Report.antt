@@ -7,13 +7,15 @@ use Rattle.ec_core.specs.Run.{HasEnded}
 use Rattle.ec_core.specs.Valid.{valid}
 use Rattle.ec_edge.specs.Edge.{Rose}
 use Rattle.ec_small.specs.declared.tree.Program.{Program}
+use Rattle.ec_driver.specs.declared.command.Command.{Command}
+use Rattle.ec_driver.specs.declared.command.Command.TheVariants.{Check, Print, Run as RunCommand}
 use Rattle.ec_driver.specs.declared.command.RunWords.{RunWords}
 use Rattle.ec_driver.specs.declared.status.Refusal.{Refusal}
 use Rattle.ec_driver.specs.declared.status.Report.{Report}
 use Rattle.ec_driver.specs.declared.status.Status.{Status}
 use Rattle.ec_driver.specs.declared.status.Status.TheVariants.{Done, WordsRefused, SourceRefused, StepsSpent, ReadFault, WriteFault, NoMemory}
-use Rattle.ec_driver.specs.Source.{Accepts, IsAccepted, IsRefused, Rejects}
-use Rattle.ec_driver.specs.Said.{IsUntouched, Says, Stream, said_accepted, said_status, said_world}
+use Rattle.ec_driver.specs.Source.{Accepts, Checks, IsRefused, IsWritten, Misfits, Prints, Rejects}
+use Rattle.ec_driver.specs.Said.{IsUntouched, Says, Stream, said_status, said_text, said_world}
 use Rattle.ec_driver.specs.Kept.{IsCodeOf, IsLast, IsSpent, IsWithin}
 
 -- ---- kinds of statuses
@@ -51,14 +53,18 @@ IsUnrun WriteFault = ⊥
 IsUnrun NoMemory = ⊥
 
 -- a run was made, unless a fault of writing or want of memory has taken its place
-abbrev pub RunsOrStops : Status → Type 0
-RunsOrStops s = HasRun s ⊎ ((s ≡ WriteFault) ⊎ (s ≡ NoMemory))
+abbrev pub RunsOrFails : Status → Type 0
+RunsOrFails s = HasRun s ⊎ ((s ≡ WriteFault) ⊎ (s ≡ NoMemory))
 
 -- the same, or the file could not be read
-abbrev pub RunsOrFails : Status → Type 0
-RunsOrFails s = (s ≡ ReadFault) ⊎ RunsOrStops s
+abbrev pub RunsOrUnread : Status → Type 0
+RunsOrUnread s = (s ≡ ReadFault) ⊎ RunsOrFails s
 
 -- ---- reports
+
+-- all was written that is to be written of some text, which is the content where it is told
+abbrev pub IsShown : (List ℕ → List ℕ → Type 0) → Option (List ℕ) → Stream → Stream → Type 0
+IsShown writes content out err = (text : List ℕ) × IsWritten writes content text × Says out err (said_text text)
 
 -- the report has a run, and its code
 abbrev pub HasKept : Report → Type 0
@@ -89,9 +95,9 @@ pub record Keeps (content : Option (List ℕ)) (c : RunWords) (out err : Stream)
 
 -- the report of a run of a file with this content by these words
 pub record IsReport (content : Option (List ℕ)) (faults_old faults_new : ℕ) (out err : Stream) (c : RunWords) (x : Report) : Type 0 where
-  pub refused_only : (r : Refusal) → x.status ≡ SourceRefused r → IsRefused content r
+  pub refused_only : (r : Refusal) → x.status ≡ SourceRefused r → IsRefused Rejects content r
   pub refused : (b : List ℕ) → content ≡ Some b → (r : Refusal) → Rejects b r → IsOrUnread (SourceRefused r) x.status
-  pub accepted : (b : List ℕ) → content ≡ Some b → (p : Program) → Accepts b p → RunsOrFails x.status
+  pub accepted : (b : List ℕ) → content ≡ Some b → (p : Program) → Accepts b p → RunsOrUnread x.status
   pub not_words : x.status ≡ WordsRefused → ⊥
   pub read : x.status ≡ ReadFault → Rose faults_old faults_new
   pub write : x.status ≡ WriteFault → Rose out.faults_old out.faults_new ⊎ Rose err.faults_old err.faults_new
@@ -104,17 +110,30 @@ pub record IsReport (content : Option (List ℕ)) (faults_old faults_new : ℕ) 
   pub last : (r : Run) → x.run ≡ Some r → HasLast c x r
   pub keeps : (code : Code) (r : Run) (w : List Node) → IsLast c x code r w → Keeps content c out err x.status code r w
 
--- the report of a check of a file with this content
-pub record IsChecked (content : Option (List ℕ)) (faults_old faults_new : ℕ) (out err : Stream) (x : Report) : Type 0 where
-  pub refused_only : (r : Refusal) → x.status ≡ SourceRefused r → IsRefused content r
-  pub refused : (b : List ℕ) → content ≡ Some b → (r : Refusal) → Rejects b r → IsOrUnread (SourceRefused r) x.status
-  pub accepted_only : x.status ≡ Done → IsAccepted content
-  pub accepted : (b : List ℕ) → content ≡ Some b → (p : Program) → Accepts b p → IsOrUnread Done x.status
+-- the report of a file with this content that isn't run: the text that is to be written of it, or its refusal
+pub record IsAnswer (writes : List ℕ → List ℕ → Type 0) (rejects : List ℕ → Refusal → Type 0) (content : Option (List ℕ)) (faults_old faults_new : ℕ) (out err : Stream) (x : Report) : Type 0 where
+  pub refused_only : (r : Refusal) → x.status ≡ SourceRefused r → IsRefused rejects content r
+  pub refused : (b : List ℕ) → content ≡ Some b → (r : Refusal) → rejects b r → IsOrUnread (SourceRefused r) x.status
+  pub shown : x.status ≡ Done → IsShown writes content out err
+  pub written : (b : List ℕ) → content ≡ Some b → (text : List ℕ) → writes b text → IsOrUnread Done x.status
   pub not_words : x.status ≡ WordsRefused → ⊥
   pub not_spent : x.status ≡ StepsSpent → ⊥
   pub read : x.status ≡ ReadFault → Rose faults_old faults_new
   pub write : x.status ≡ WriteFault → Rose out.faults_old out.faults_new ⊎ Rose err.faults_old err.faults_new
   pub bare : IsBare x
   pub says : IsUnrun x.status → Says out err (said_status x.status)
-  pub says_accepted : x.status ≡ Done → Says out err said_accepted
   pub unsaid : x.status ≡ NoMemory → IsUntouched out
+
+-- ---- commands
+
+-- which sources a command refuses, and for what
+abbrev pub rejects_of : Command → List ℕ → Refusal → Type 0
+rejects_of (Check file) = Rejects
+rejects_of (Print file) = Misfits
+rejects_of (RunCommand r) = Rejects
+
+-- what a command writes of a source that it doesn't run
+abbrev pub writes_of : Command → List ℕ → List ℕ → Type 0
+writes_of (Check file) = Checks
+writes_of (Print file) = Prints
+writes_of (RunCommand r) = λ bytes text. ⊥

@@ -1,5 +1,5 @@
 -- What a command says: a function of its status, or of the last world of its run.
-use Rattle.std.specs.Prelude.{◌≡◌, Bool, true, false, nat_lt, ℕ, List, [], ◌∷◌, ◌++◌, Option, Some, slice_get, pos, codes}
+use Rattle.std.specs.Prelude.{◌≡◌, Bool, true, false, nat_lt, ℕ, List, [], ◌∷◌, ◌++◌, Option, Some, slice_get, pos}
 use Rattle.ec_core.specs.declared.node.Node.{Node}
 use Rattle.ec_core.specs.Run.{filled_in, output, result}
 use Rattle.ec_driver.specs.declared.status.Status.{Status}
@@ -21,9 +21,9 @@ pieces_of (b ∷ bs) = (b ∷ bs) ∷ []
 abbrev pub said_status : Status → Said
 said_status s = record { status = s; pieces = []; line = line_of s (pos 0) }
 
--- of an accepted source that it is, and no line
-abbrev pub said_accepted : Said
-said_accepted = record { status = Done; pieces = codes "accepted\n" ∷ []; line = [] }
+-- of a source that isn't run a text, and no line
+abbrev pub said_text : List ℕ → Said
+said_text text = record { status = Done; pieces = pieces_of text; line = [] }
 
 abbrev pub said_of : Status → List Node → Said
 said_of s w = record { status = s; pieces = pieces_of (output w); line = line_of s (result w) }

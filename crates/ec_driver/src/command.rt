@@ -11,6 +11,8 @@ use std::alloc::{AllocError, Global};
 pub enum Command {
     /// Says whether the source of this file is accepted.
     Check(Text),
+    /// Writes the canonical text of this file.
+    Print(Text),
     Run(RunWords),
 }
 
@@ -66,6 +68,8 @@ fn read_pair(alloc: Global, name: &Text, file: &Text) -> Result<Command, Fail<Wo
     let name = name.as_slice();
     if name == b"check".as_slice() {
         Ok(Command::Check(file.copy(alloc)?))
+    } else if name == b"print".as_slice() {
+        Ok(Command::Print(file.copy(alloc)?))
     } else if name == b"run".as_slice() {
         Ok(Command::Run(run_of(alloc, file)?))
     } else {

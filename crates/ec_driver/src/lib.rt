@@ -2,9 +2,9 @@
 //! `specs/Report.antt` says what a report promises.
 #![tactic(auto)]
 
-mod check;
 mod command;
 mod drive;
+mod laws;
 mod line;
 mod run;
 mod say;
@@ -13,6 +13,7 @@ mod status;
 mod top;
 
 pub use command::{Command, RunWords};
+pub use laws::sources_are_refused_once;
 pub use status::{Refusal, Report, Status};
 pub use top::{earthc, plain, threaded};
 

@@ -28,6 +28,9 @@ fn name(what: u8) -> &'static [u8]
         5 => b"BadEscape",
         6 => b"HashLine",
         7 => b"TooLong",
+        10 => b"Expected",
+        11 => b"TooDeep",
+        12 => b"TooMany",
         _ => b"NotYet",
     }
 }

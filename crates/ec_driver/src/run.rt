@@ -9,16 +9,16 @@ ghost use Rattle.ec_driver.specs.Drive.{IsProgress, IsStopped};
 ghost use Rattle.ec_driver.specs.Lines.{line_of};
 ghost use Rattle.ec_driver.specs.Said.{Grew, stream};
 ghost use Rattle.ec_driver.specs.Source.{IsText};
-ghost use Rattle.ec_driver.specs.Report.{IsPlain, IsReport, RunsOrStops};
+ghost use Rattle.ec_driver.specs.Report.{IsPlain, IsReport, RunsOrFails};
 
 use crate::drive::{Progress, drive};
+use crate::laws::sources_are_refused_once;
 use crate::say::{bare, tell};
 use crate::status::{Report, Status};
 use ec_agree::{ended_runs_agree, unended_runs_go_on};
 use ec_base::MAX_STEPS;
 use ec_core::{Code, Run};
 use ec_edge::Sink;
-use ec_lex::texts_have_one_cut;
 use ec_small::Program;
 use ec_split::split;
 use std::alloc::Global;
@@ -41,7 +41,7 @@ pub(crate) fn run_program<O: Sink, E: Sink>(
         Ok(progress) => {
             ended_runs_agree();
             unended_runs_go_on();
-            texts_have_one_cut();
+            sources_are_refused_once();
             finish(alloc, out, err, progress, code)
         }
     }
@@ -57,7 +57,7 @@ fn finish<O: Sink, E: Sink>(
 ) -> Report
     requires progress { IsProgress code progress }
     requires stopped { IsStopped progress }
-    ensures status { RunsOrStops result.status }
+    ensures status { RunsOrFails result.status }
     ensures write { result.status ≡ Status.WriteFault → Rose (O.count out.old) (O.count out.new) ⊎ Rose (E.count err.old) (E.count err.new) }
     ensures code { result.code ≡ Some code }
     ensures run { result.run ≡ Some (record { nodes = 1; steps = 1048576; list = progress.list }) }

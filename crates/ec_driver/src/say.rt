@@ -2,7 +2,7 @@
 ghost use Rattle.std.specs.Prelude.{◌≡◌, ◌⊎◌, pos};
 ghost use Rattle.ec_edge.specs.Edge.{Rose};
 ghost use Rattle.ec_driver.specs.Lines.{line_of};
-ghost use Rattle.ec_driver.specs.Said.{Grew};
+ghost use Rattle.ec_driver.specs.Said.{Grew, IsUntouched, stream};
 ghost use Rattle.ec_driver.specs.Report.{IsBare, IsOrFails, IsPlain};
 
 use crate::line::line;
@@ -54,6 +54,33 @@ pub(crate) fn bare<E: Sink>(alloc: Global, err: &mut E, status: Status) -> Repor
     let status = match status {
         Status::NoMemory => say_no_memory(err),
         plain => say(alloc, err, plain, 0),
+    };
+    Report {
+        status,
+        run: None,
+        code: None,
+    }
+}
+
+/// Puts a text to the output, unless it is empty.
+pub(crate) fn show<O: Sink, E: Sink>(out: &mut O, err: &mut E, text: &[u8]) -> Report
+    ensures status { IsOrFails Status.Done result.status }
+    ensures output { result.status ≡ Status.Done → Grew (O.written out.old) (O.written out.new) text.now }
+    ensures quiet { result.status ≡ Status.Done → O.count out.new ≡ O.count out.old }
+    ensures no_line { result.status ≡ Status.Done → E.written err.new ≡ E.written err.old }
+    ensures quiet_line { result.status ≡ Status.Done → E.count err.new ≡ E.count err.old }
+    ensures write { result.status ≡ Status.WriteFault → Rose (O.count out.old) (O.count out.new) ⊎ Rose (E.count err.old) (E.count err.new) }
+    ensures unsaid { result.status ≡ Status.NoMemory → IsUntouched (stream (O.written out.old) (O.written out.new) (O.count out.old) (O.count out.new)) }
+    ensures bare { IsBare result }
+{
+    let status = if text.is_empty() {
+        Status::Done
+    } else {
+        match out.put(text) {
+            Ok(()) => Status::Done,
+            Err(Fail::Memory) => say_no_memory(err),
+            Err(Fail::Refused(_)) => Status::WriteFault,
+        }
     };
     Report {
         status,

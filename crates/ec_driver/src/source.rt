@@ -1,57 +1,129 @@
-//! From a file to the tree of its program.
-ghost use Rattle.std.specs.Prelude.{◌≡◌, List, ℕ};
+//! From a file to the tree of its program, or to its canonical text.
+ghost use Rattle.std.specs.Prelude.{◌≡◌, List, MatchResult, ℕ};
 ghost use Rattle.ec_base.specs.Lexical.{AreTokens};
 ghost use Rattle.ec_edge.specs.Edge.{Rose};
-ghost use Rattle.ec_driver.specs.Source.{Loaded, Parsing, Reading};
+ghost use Rattle.ec_small.specs.Grammar.{Reads};
+ghost use Rattle.ec_small.specs.Sound.{Sound};
+ghost use Rattle.ec_driver.specs.Load.{Fails, Unread, status_of};
+ghost use Rattle.ec_driver.specs.Source.{Accepts, IsContent, IsSource, IsText, IsWritten, Lexes, Misfits, Prints, Rejects, StopsAt};
 
 use crate::status::{Refusal, Status};
-use ec_base::{Fail, MAX_SOURCE, Text, Token};
+use ec_base::{Fail, MAX_SOURCE, Text, Token, Tokens};
 use ec_edge::{ReadEnd, Shelf};
 use ec_lex::lex;
-use ec_small::{Program, read};
+use ec_print::print;
+use ec_small::Program;
+use ec_syntax::Program as Tree;
 use std::alloc::Global;
 
-/// The tree of the tokens of a text, or where they are none.
-fn parse(alloc: Global, tokens: &[Token]) -> Result<Program, Fail<Refusal>>
-    requires { AreTokens tokens.now }
-    ensures { Parsing tokens.now result }
+/// The tokens of a text and the tree of its program in the whole language.
+#[derive(Drop)]
+pub(crate) struct Parsed {
+    pub tokens: Tokens,
+    pub tree: Tree,
+}
+
+/// The tokens of a text, or why and where it has none.
+fn cut(alloc: Global, text: &Text) -> Result<Tokens, Fail<Refusal>>
+    ensures { MatchResult result (Lexes text.now) (Fails (Misfits text.now)) }
 {
-    match read(alloc, tokens) {
+    if text.len() > MAX_SOURCE {
+        return Err(Fail::Refused(Refusal::too_long()));
+    }
+    match lex(alloc, text.as_slice()) {
+        Ok(tokens) => Ok(tokens),
+        Err(Fail::Memory) => Err(Fail::Memory),
+        Err(Fail::Refused(first)) => Err(Fail::Refused(Refusal::not_token(first))),
+    }
+}
+
+/// The program of a text in the whole language, or why and where it is none.
+fn parse(alloc: Global, text: &Text) -> Result<Parsed, Fail<Refusal>>
+    ensures { MatchResult result (λ s. IsSource text.now s.tokens s.tree) (Fails (Misfits text.now)) }
+{
+    let tokens = cut(alloc, text)?;
+    match ec_reader::read(alloc, &tokens) {
+        Ok(tree) => Ok(Parsed { tokens, tree }),
+        Err(Fail::Memory) => Err(Fail::Memory),
+        Err(Fail::Refused(first)) => Err(Fail::Refused(Refusal::not_program(first))),
+    }
+}
+
+/// The tree of the small program that the tokens of a text are, or where they are none.
+fn narrow(alloc: Global, tokens: &[Token]) -> Result<Program, Fail<Refusal>>
+    requires { AreTokens tokens.now }
+    ensures { MatchResult result (λ p. Reads tokens.now p × Sound p) (Fails (StopsAt tokens.now)) }
+{
+    match ec_small::read(alloc, tokens) {
         Ok(program) => Ok(program),
         Err(Fail::Memory) => Err(Fail::Memory),
         Err(Fail::Refused(at)) => Err(Fail::Refused(Refusal::not_yet(tokens[at].at))),
     }
 }
 
-/// The tree of a text, or why and where it is none.
+/// The tree of the small program that a text is, or why and where it is none.
 fn tree(alloc: Global, text: &Text) -> Result<Program, Fail<Refusal>>
-    ensures { Reading text.now result }
+    ensures { MatchResult result (λ p. Accepts text.now p × Sound p) (Fails (Rejects text.now)) }
 {
-    if text.len() > MAX_SOURCE {
-        return Err(Fail::Refused(Refusal::too_long()));
+    let parsed = parse(alloc, text)?;
+    narrow(alloc, parsed.tokens.as_slice())
+}
+
+/// The canonical text of the program that a text is, or why and where it is none.
+fn canonical(alloc: Global, text: &Text) -> Result<Text, Fail<Refusal>>
+    ensures { MatchResult result (Prints text.now) (Fails (Misfits text.now)) }
+{
+    let parsed = parse(alloc, text)?;
+    Ok(print(alloc, &parsed.tree)?)
+}
+
+/// The status of a text that isn't read.
+fn status_of(fail: Fail<Refusal>) -> Status
+    ensures { result ≡ status_of fail }
+{
+    match fail {
+        Fail::Memory => Status::NoMemory,
+        Fail::Refused(refusal) => Status::SourceRefused(refusal),
     }
-    match lex(alloc, text.as_slice()) {
-        Ok(tokens) => parse(alloc, tokens.as_slice()),
-        Err(Fail::Memory) => Err(Fail::Memory),
-        Err(Fail::Refused(first)) => Err(Fail::Refused(Refusal::not_token(first))),
+}
+
+/// The text of a file, or the status that tells why there is none. The shelf stays as it is.
+fn fetch<S: Shelf>(shelf: &mut S, file: &Text) -> Result<Text, Status>
+    ensures fetched { MatchResult result (IsContent (S.content shelf.old file.now)) (Unread Misfits (S.content shelf.old file.now) (Rose (S.read_count shelf.old) (S.read_count shelf.new))) }
+    ensures stays { (name : List ℕ) → S.content shelf.new name ≡ S.content shelf.old name }
+    ensures unwritten { S.write_count shelf.new ≡ S.write_count shelf.old }
+{
+    match shelf.read(file, MAX_SOURCE as u64) {
+        Ok(ReadEnd::Whole(text)) => Ok(text),
+        Ok(ReadEnd::TooLong) => Err(Status::SourceRefused(Refusal::too_long())),
+        Err(Fail::Memory) => Err(Status::NoMemory),
+        Err(Fail::Refused(_)) => Err(Status::ReadFault),
     }
 }
 
 /// The tree of a file, or the status that tells why there is none. The shelf stays as it is.
 pub(crate) fn load<S: Shelf>(alloc: Global, shelf: &mut S, file: &Text) -> Result<Program, Status>
-    ensures loaded { Loaded (S.content shelf.old file.now) (Rose (S.read_count shelf.old) (S.read_count shelf.new)) result }
+    ensures loaded { MatchResult result (λ p. IsText (S.content shelf.old file.now) p × Sound p) (Unread Rejects (S.content shelf.old file.now) (Rose (S.read_count shelf.old) (S.read_count shelf.new))) }
     ensures stays { (name : List ℕ) → S.content shelf.new name ≡ S.content shelf.old name }
     ensures unwritten { S.write_count shelf.new ≡ S.write_count shelf.old }
 {
-    let text = match shelf.read(file, MAX_SOURCE as u64) {
-        Ok(ReadEnd::Whole(text)) => text,
-        Ok(ReadEnd::TooLong) => return Err(Status::SourceRefused(Refusal::too_long())),
-        Err(Fail::Memory) => return Err(Status::NoMemory),
-        Err(Fail::Refused(_)) => return Err(Status::ReadFault),
-    };
+    let text = fetch(shelf, file)?;
     match tree(alloc, &text) {
         Ok(program) => Ok(program),
-        Err(Fail::Memory) => Err(Status::NoMemory),
-        Err(Fail::Refused(refusal)) => Err(Status::SourceRefused(refusal)),
+        Err(fail) => Err(status_of(fail)),
     }
+}
+
+/// The canonical text of a file, or the status that tells why there is none. The shelf stays as it is.
+pub(crate) fn load_printed<S: Shelf>(
+    alloc: Global,
+    shelf: &mut S,
+    file: &Text,
+) -> Result<Text, Status>
+    ensures loaded { MatchResult result (IsWritten Prints (S.content shelf.old file.now)) (Unread Misfits (S.content shelf.old file.now) (Rose (S.read_count shelf.old) (S.read_count shelf.new))) }
+    ensures stays { (name : List ℕ) → S.content shelf.new name ≡ S.content shelf.old name }
+    ensures unwritten { S.write_count shelf.new ≡ S.write_count shelf.old }
+{
+    let text = fetch(shelf, file)?;
+    canonical(alloc, &text).map_err(status_of)
 }

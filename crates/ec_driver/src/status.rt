@@ -1,10 +1,11 @@
 //! How a command ends.
 ghost use Rattle.std.specs.Prelude.{◌≡◌};
-ghost use Rattle.ec_driver.specs.Lines.{not_token, not_yet, number_of, too_long};
+ghost use Rattle.ec_driver.specs.Lines.{not_program, not_token, not_yet, number_of, too_long};
 
 use ec_base::Span;
 use ec_core::{Code, Run};
 use ec_lex::LexRefusal;
+use ec_reader::ReadRefusal;
 
 /// Why and where a source is refused; `other` is a second place that the refusal speaks of.
 #[derive(Clone, Copy, Debug, PartialEq, Eq)]
@@ -18,6 +19,17 @@ impl Refusal {
     /// The text has no token here.
     pub(crate) fn not_token(first: LexRefusal) -> Refusal
         ensures { result ≡ not_token first }
+    {
+        Refusal {
+            what: first.what,
+            at: first.at,
+            other: None,
+        }
+    }
+
+    /// No program of the whole language within the limits goes on with the token here.
+    pub(crate) fn not_program(first: ReadRefusal) -> Refusal
+        ensures { result ≡ not_program first }
     {
         Refusal {
             what: first.what,

@@ -52,6 +52,12 @@ fn check(alloc: Global, source: &[u8], faults: Faults) -> Result<Called, NoMemor
     call(alloc, &[b"check", b"a.ec"], source, faults)
 }
 
+/// Prints a source.
+fn print(alloc: Global, source: &[u8], faults: Faults) -> Result<Called, NoMemory> {
+    let source = Text::from_slice(alloc, source)?;
+    call(alloc, &[b"print", b"a.ec"], source, faults)
+}
+
 /// Runs a source.
 fn run(alloc: Global, source: &[u8], faults: Faults) -> Result<Called, NoMemory> {
     let source = Text::from_slice(alloc, source)?;
@@ -125,7 +131,7 @@ fn programs_print_and_have_a_result(rt: HostRuntime) -> Result<(), Fail> {
 
 #[test]
 fn a_source_is_refused_where_no_program_goes_on(rt: HostRuntime) -> Result<(), Fail> {
-    let cases: [(&[u8], u32, u32, &[u8]); 3] = [
+    let cases: [(&[u8], u32, u32, &[u8]); 2] = [
         (
             b"int main(){ while (1) ; return 0; }",
             12,
@@ -133,12 +139,6 @@ fn a_source_is_refused_where_no_program_goes_on(rt: HostRuntime) -> Result<(), F
             b"refused 9 at 12..17 NotYet\n",
         ),
         (b"", 0, 0, b"refused 9 at 0..0 NotYet\n"),
-        (
-            b"int main(){ return",
-            18,
-            18,
-            b"refused 9 at 18..18 NotYet\n",
-        ),
     ];
     for (source, from, to, line) in cases {
         let checked = check(rt.alloc(), source, NO_FAULTS)?;
@@ -146,6 +146,105 @@ fn a_source_is_refused_where_no_program_goes_on(rt: HostRuntime) -> Result<(), F
         let called = run(rt.alloc(), source, NO_FAULTS)?;
         is_bare(&rt, &called, refused(9, from, to), line);
     }
+    Ok(())
+}
+
+/// The source of a result in so many pairs of parentheses.
+fn in_parentheses(alloc: Global, pairs: usize) -> Result<Text, NoMemory> {
+    let mut source = Text::from_slice(alloc, b"int main(){ return ")?;
+    for _ in 0..pairs {
+        source.append(b"(")?;
+    }
+    source.append(b"0")?;
+    for _ in 0..pairs {
+        source.append(b")")?;
+    }
+    source.append(b"; }")?;
+    Ok(source)
+}
+
+#[test]
+fn a_source_is_refused_where_it_is_no_program(rt: HostRuntime) -> Result<(), Fail> {
+    let nine = b"int main(){ printf(\"\", 1, 2, 3, 4, 5, 6, 7, 8, 9); return 0; }";
+    let cases: [(&[u8], u8, u32, u32, &[u8]); 3] = [
+        (
+            b"int main(){ return",
+            10,
+            18,
+            18,
+            b"refused 10 at 18..18 Expected\n",
+        ),
+        (
+            b"int main(){ return 1 + ; }",
+            10,
+            23,
+            24,
+            b"refused 10 at 23..24 Expected\n",
+        ),
+        (nine, 12, 47, 48, b"refused 12 at 47..48 TooMany\n"),
+    ];
+    for (source, what, from, to, line) in cases {
+        for command in [b"check".as_slice(), b"run".as_slice(), b"print".as_slice()] {
+            let text = Text::from_slice(rt.alloc(), source)?;
+            let called = call(rt.alloc(), &[command, b"a.ec"], text, NO_FAULTS)?;
+            is_bare(&rt, &called, refused(what, from, to), line);
+        }
+    }
+    Ok(())
+}
+
+#[test]
+fn a_source_is_nested_at_most_64_deep(rt: HostRuntime) -> Result<(), Fail> {
+    for command in [b"check".as_slice(), b"run".as_slice(), b"print".as_slice()] {
+        let deep = in_parentheses(rt.alloc(), 64)?;
+        let called = call(rt.alloc(), &[command, b"a.ec"], deep, NO_FAULTS)?;
+        let line = b"refused 11 at 83..84 TooDeep\n".as_slice();
+        is_bare(&rt, &called, refused(11, 83, 84), line);
+    }
+    let source = in_parentheses(rt.alloc(), 63)?;
+    let called = call(rt.alloc(), &[b"run", b"a.ec"], source, NO_FAULTS)?;
+    assert_eq!(rt; called.report.status, Status::Done);
+    assert_eq!(rt; called.err.bytes(), b"result 0\n".as_slice());
+    Ok(())
+}
+
+#[test]
+fn a_printed_source_is_its_canonical_text(rt: HostRuntime) -> Result<(), Fail> {
+    let cases: [(&[u8], &[u8]); 4] = [
+        (b"", b""),
+        (b"int main(){return 0;}", b"int main ( ) {\nreturn 0 ;\n}\n"),
+        (
+            b"int main ( ) {\nreturn 0 ;\n}\n",
+            b"int main ( ) {\nreturn 0 ;\n}\n",
+        ),
+        (
+            b"int f(void){ int i, j; for(i=0;i<2;i++) ; return 1; } // end",
+            b"int f ( ) {\nint i ;\nint j ;\nfor ( i = 0 ; i < 2 ; i = i + 1 ) ;\nreturn 1 ;\n}\n",
+        ),
+    ];
+    for (source, text) in cases {
+        let called = print(rt.alloc(), source, NO_FAULTS)?;
+        assert_eq!(rt; called.report.status, Status::Done);
+        assert!(rt; called.report.run.is_none());
+        assert!(rt; called.report.code.is_none());
+        assert_eq!(rt; called.out.bytes(), text);
+        assert_eq!(rt; called.err.bytes(), b"".as_slice());
+    }
+    Ok(())
+}
+
+#[test]
+fn what_a_print_cannot_write_is_a_fault(rt: HostRuntime) -> Result<(), Fail> {
+    let faults = Faults {
+        shelf: &[],
+        out: &[(1, 4)],
+        err: &[],
+    };
+    let called = print(rt.alloc(), ANSWER, faults)?;
+    assert_eq!(rt; called.report.status, Status::WriteFault);
+    assert_eq!(rt; called.out.bytes(), b"int ".as_slice());
+    let called = print(rt.alloc(), b"", faults)?;
+    assert_eq!(rt; called.report.status, Status::Done);
     Ok(())
 }
 
@@ -199,6 +298,8 @@ fn a_source_is_refused_where_it_has_no_token(rt: HostRuntime) -> Result<(), Fail
     for (source, what, from, to, line) in cases {
         let checked = check(rt.alloc(), source, NO_FAULTS)?;
         is_bare(&rt, &checked, refused(what, from, to), line);
+        let printed = print(rt.alloc(), source, NO_FAULTS)?;
+        is_bare(&rt, &printed, refused(what, from, to), line);
         let called = run(rt.alloc(), source, NO_FAULTS)?;
         is_bare(&rt, &called, refused(what, from, to), line);
     }
@@ -285,7 +386,7 @@ fn what_cannot_be_written_is_a_fault_beside_its_run(rt: HostRuntime) -> Result<(
 fn a_file_that_cannot_be_read_is_a_fault(rt: HostRuntime) -> Result<(), Fail> {
     let cases: [(&[u8], &[u64]); 3] = [(b"none.ec", &[]), (b"a.ec", &[1]), (b"A.ec", &[2])];
     for (file, shelf) in cases {
-        for command in [b"run".as_slice(), b"check".as_slice()] {
+        for command in [b"run".as_slice(), b"check".as_slice(), b"print".as_slice()] {
             let source = Text::from_slice(rt.alloc(), ANSWER)?;
             let faults = Faults {
                 shelf,
@@ -301,7 +402,7 @@ fn a_file_that_cannot_be_read_is_a_fault(rt: HostRuntime) -> Result<(), Fail> {
 
 #[test]
 fn words_that_are_no_command_are_refused(rt: HostRuntime) -> Result<(), Fail> {
-    let cases: [&[&[u8]]; 17] = [
+    let cases: [&[&[u8]]; 21] = [
         &[],
         &[b""],
         &[b"run"],
@@ -319,6 +420,10 @@ fn words_that_are_no_command_are_refused(rt: HostRuntime) -> Result<(), Fail> {
         &[b"check", b"-a.ec"],
         &[b"check", b"a.tc"],
         &[b"check", b"a.ec", b"a.ec"],
+        &[b"print"],
+        &[b"print", b""],
+        &[b"print", b"a.tc"],
+        &[b"print", b"a.ec", b"a.ec"],
     ];
     for words in cases {
         let source = Text::from_slice(rt.alloc(), ANSWER)?;

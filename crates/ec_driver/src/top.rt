@@ -9,23 +9,22 @@ ghost use Rattle.ec_edge.specs.Edge.{Rose};
 ghost use Rattle.ec_small.specs.declared.tree.Program.{Program};
 ghost use Rattle.ec_driver.specs.declared.command.RunWords.{RunWords};
 ghost use Rattle.ec_driver.specs.declared.command.Command.{Command};
-ghost use Rattle.ec_driver.specs.declared.command.Command.TheVariants.{Check as CheckCommand, Run as RunCommand};
+ghost use Rattle.ec_driver.specs.declared.command.Command.TheVariants.{Run as RunCommand};
 ghost use Rattle.ec_driver.specs.declared.status.Refusal.{Refusal};
-ghost use Rattle.ec_driver.specs.Command.{ForPlain, ForThreaded, IsCheck, IsCommand, IsGiven, IsNoCommand, IsRun, file_of, run_of};
-ghost use Rattle.ec_driver.specs.Source.{Accepts, IsAccepted, IsRefused, Rejects};
-ghost use Rattle.ec_driver.specs.Said.{IsUntouched, Says, said_accepted, said_status, stream};
+ghost use Rattle.ec_driver.specs.Command.{ForPlain, ForThreaded, IsCommand, IsGiven, IsNoCommand, IsRun, file_of, run_of};
+ghost use Rattle.ec_driver.specs.Source.{Accepts, Checks, IsRefused, Misfits, Prints, Rejects};
+ghost use Rattle.ec_driver.specs.Said.{IsUntouched, Says, said_status, stream};
 ghost use Rattle.ec_driver.specs.Kept.{IsCodeOf, IsLast, IsSpent, IsWithin};
-ghost use Rattle.ec_driver.specs.Report.{HasKept, HasLast, HasRun, IsBare, IsChecked, IsOrFails, IsOrUnread, IsReport, IsUnrun, RunsOrFails, SaysLast};
+ghost use Rattle.ec_driver.specs.Report.{HasKept, HasLast, HasRun, IsAnswer, IsBare, IsOrFails, IsOrUnread, IsReport, IsShown, IsUnrun, RunsOrUnread, SaysLast, rejects_of, writes_of};
 
-use crate::check::accept;
 use crate::command::{Command, RunWords, read_words};
+use crate::laws::sources_are_refused_once;
 use crate::run::run_program;
-use crate::say::bare;
-use crate::source::load;
+use crate::say::{bare, show};
+use crate::source::{load, load_printed};
 use crate::status::{Report, Status};
 use ec_base::{Fail, Text};
 use ec_edge::{Gate, Shelf, Sink};
-use ec_lex::texts_have_one_cut;
 use std::alloc::Global;
 
 /// Runs the program of a file, and says and reports how that ended.
@@ -41,7 +40,7 @@ fn run_file<S: Shelf, O: Sink, E: Sink>(
     ensures stays { (name : List ℕ) → S.content shelf.new name ≡ S.content shelf.old name }
     ensures unwritten { S.write_count shelf.new ≡ S.write_count shelf.old }
 {
-    texts_have_one_cut();
+    sources_are_refused_once();
     match load(alloc, shelf, &words.file) {
         Ok(program) => run_program(alloc, &program, out, err),
         Err(status) => bare(alloc, err, status),
@@ -56,13 +55,32 @@ fn check_file<S: Shelf, O: Sink, E: Sink>(
     out: &mut O,
     err: &mut E,
 ) -> Report
-    ensures report { IsChecked (S.content shelf.old file.now) (S.read_count shelf.old) (S.read_count shelf.new) (stream (O.written out.old) (O.written out.new) (O.count out.old) (O.count out.new)) (stream (E.written err.old) (E.written err.new) (E.count err.old) (E.count err.new)) result }
+    ensures report { IsAnswer Checks Rejects (S.content shelf.old file.now) (S.read_count shelf.old) (S.read_count shelf.new) (stream (O.written out.old) (O.written out.new) (O.count out.old) (O.count out.new)) (stream (E.written err.old) (E.written err.new) (E.count err.old) (E.count err.new)) result }
     ensures stays { (name : List ℕ) → S.content shelf.new name ≡ S.content shelf.old name }
     ensures unwritten { S.write_count shelf.new ≡ S.write_count shelf.old }
 {
-    texts_have_one_cut();
+    sources_are_refused_once();
     match load(alloc, shelf, file) {
-        Ok(_program) => accept(out, err),
+        Ok(_program) => show(out, err, b"accepted\n"),
+        Err(status) => bare(alloc, err, status),
+    }
+}
+
+/// Writes the canonical text of a file.
+fn print_file<S: Shelf, O: Sink, E: Sink>(
+    alloc: Global,
+    file: &Text,
+    shelf: &mut S,
+    out: &mut O,
+    err: &mut E,
+) -> Report
+    ensures report { IsAnswer Prints Misfits (S.content shelf.old file.now) (S.read_count shelf.old) (S.read_count shelf.new) (stream (O.written out.old) (O.written out.new) (O.count out.old) (O.count out.new)) (stream (E.written err.old) (E.written err.new) (E.count err.old) (E.count err.new)) result }
+    ensures stays { (name : List ℕ) → S.content shelf.new name ≡ S.content shelf.old name }
+    ensures unwritten { S.write_count shelf.new ≡ S.write_count shelf.old }
+{
+    sources_are_refused_once();
+    match load_printed(alloc, shelf, file) {
+        Ok(text) => show(out, err, text.as_slice()),
         Err(status) => bare(alloc, err, status),
     }
 }
@@ -78,11 +96,12 @@ pub fn plain<S: Shelf, O: Sink, E: Sink>(
     requires own { ForPlain command.now }
     requires given { IsGiven command.now }
 
-    // A source is refused, or accepted, exactly where its content is, unless the call fails first.
-    ensures refused_only { (file : List ℕ) → command.now ≡ CheckCommand file → (r : Refusal) → result.status ≡ Status.SourceRefused r → IsRefused (S.content shelf.old file) r }
-    ensures refused { (file : List ℕ) → command.now ≡ CheckCommand file → (b : List ℕ) → S.content shelf.old file ≡ Some b → (r : Refusal) → Rejects b r → IsOrUnread (Status.SourceRefused r) result.status }
-    ensures accepted_only { (file : List ℕ) → command.now ≡ CheckCommand file → result.status ≡ Status.Done → IsAccepted (S.content shelf.old file) }
-    ensures accepted { (file : List ℕ) → command.now ≡ CheckCommand file → (b : List ℕ) → S.content shelf.old file ≡ Some b → (p : Program) → Accepts b p → IsOrUnread Status.Done result.status }
+    // A source is refused exactly where its content is; of any other the text that is asked for is written, and no line.
+    // Only a fault or want of memory comes before.
+    ensures refused_only { (r : Refusal) → result.status ≡ Status.SourceRefused r → IsRefused (rejects_of command.now) (S.content shelf.old (file_of command.now)) r }
+    ensures refused { (b : List ℕ) → S.content shelf.old (file_of command.now) ≡ Some b → (r : Refusal) → rejects_of command.now b r → IsOrUnread (Status.SourceRefused r) result.status }
+    ensures shown { result.status ≡ Status.Done → IsShown (writes_of command.now) (S.content shelf.old (file_of command.now)) (stream (O.written out.old) (O.written out.new) (O.count out.old) (O.count out.new)) (stream (E.written err.old) (E.written err.new) (E.count err.old) (E.count err.new)) }
+    ensures written { (b : List ℕ) → S.content shelf.old (file_of command.now) ≡ Some b → (text : List ℕ) → writes_of command.now b text → IsOrUnread Status.Done result.status }
     ensures not_words { result.status ≡ Status.WordsRefused → ⊥ }
     ensures not_spent { result.status ≡ Status.StepsSpent → ⊥ }
 
@@ -96,13 +115,13 @@ pub fn plain<S: Shelf, O: Sink, E: Sink>(
     ensures run { result.run ≡ None }
     ensures code { result.code ≡ None }
 
-    // What is written is said of the status.
+    // Of what isn't done only the line of the status is written.
     ensures says { IsUnrun result.status → Says (stream (O.written out.old) (O.written out.new) (O.count out.old) (O.count out.new)) (stream (E.written err.old) (E.written err.new) (E.count err.old) (E.count err.new)) (said_status result.status) }
-    ensures says_accepted { result.status ≡ Status.Done → Says (stream (O.written out.old) (O.written out.new) (O.count out.old) (O.count out.new)) (stream (E.written err.old) (E.written err.new) (E.count err.old) (E.count err.new)) said_accepted }
     ensures unsaid { result.status ≡ Status.NoMemory → IsUntouched (stream (O.written out.old) (O.written out.new) (O.count out.old) (O.count out.new)) }
 {
     match command {
         Command::Check(file) => check_file(alloc, file, shelf, out, err),
+        Command::Print(file) => print_file(alloc, file, shelf, out, err),
         Command::Run(_) => unreachable!(),
     }
 }
@@ -128,7 +147,7 @@ pub fn threaded<S: Shelf, O: Sink, E: Sink, G: Gate + Sync, F: Fn(u64) -> u64 + 
 {
     match command {
         Command::Run(words) => run_file(alloc, words, shelf, out, err),
-        Command::Check(_) => unreachable!(),
+        Command::Check(_) | Command::Print(_) => unreachable!(),
     }
 }
 
@@ -150,13 +169,14 @@ pub fn earthc<S: Shelf, O: Sink, E: Sink, G: Gate + Sync, F: Fn(u64) -> u64 + Sy
     ensures words_only { result.status ≡ Status.WordsRefused → IsNoCommand words.now }
     ensures words { IsNoCommand words.now → IsOrFails Status.WordsRefused result.status }
 
-    // A source is refused exactly where its content is, unless the call fails first; what isn't is run, or said to be accepted.
-    ensures refused_only { (c : Command) → IsCommand words.now c → (r : Refusal) → result.status ≡ Status.SourceRefused r → IsRefused (S.content shelf.old (file_of c)) r }
-    ensures refused { (c : Command) → IsCommand words.now c → (b : List ℕ) → S.content shelf.old (file_of c) ≡ Some b → (r : Refusal) → Rejects b r → IsOrUnread (Status.SourceRefused r) result.status }
-    ensures accepted { (c : RunWords) → IsRun words.now c → (b : List ℕ) → S.content shelf.old c.file ≡ Some b → (p : Program) → Accepts b p → RunsOrFails result.status }
-    ensures checked_only { (file : List ℕ) → IsCheck words.now file → result.status ≡ Status.Done → IsAccepted (S.content shelf.old file) }
-    ensures checked { (file : List ℕ) → IsCheck words.now file → (b : List ℕ) → S.content shelf.old file ≡ Some b → (p : Program) → Accepts b p → IsOrUnread Status.Done result.status }
-    ensures check_not_spent { (file : List ℕ) → IsCheck words.now file → result.status ≡ Status.StepsSpent → ⊥ }
+    // A source is refused exactly where its content is; any other is run, or the text that is asked for is written of it.
+    // Only a fault or want of memory comes before.
+    ensures refused_only { (c : Command) → IsCommand words.now c → (r : Refusal) → result.status ≡ Status.SourceRefused r → IsRefused (rejects_of c) (S.content shelf.old (file_of c)) r }
+    ensures refused { (c : Command) → IsCommand words.now c → (b : List ℕ) → S.content shelf.old (file_of c) ≡ Some b → (r : Refusal) → rejects_of c b r → IsOrUnread (Status.SourceRefused r) result.status }
+    ensures accepted { (c : RunWords) → IsRun words.now c → (b : List ℕ) → S.content shelf.old c.file ≡ Some b → (p : Program) → Accepts b p → RunsOrUnread result.status }
+    ensures shown { (c : Command) → IsCommand words.now c → ForPlain c → result.status ≡ Status.Done → IsShown (writes_of c) (S.content shelf.old (file_of c)) (stream (O.written out.old) (O.written out.new) (O.count out.old) (O.count out.new)) (stream (E.written err.old) (E.written err.new) (E.count err.old) (E.count err.new)) }
+    ensures written { (c : Command) → IsCommand words.now c → ForPlain c → (b : List ℕ) → S.content shelf.old (file_of c) ≡ Some b → (text : List ℕ) → writes_of c b text → IsOrUnread Status.Done result.status }
+    ensures plain_not_spent { (c : Command) → IsCommand words.now c → ForPlain c → result.status ≡ Status.StepsSpent → ⊥ }
 
     // A fault comes only where its count rose.
     ensures read { result.status ≡ Status.ReadFault → Rose (S.read_count shelf.old) (S.read_count shelf.new) }
@@ -176,8 +196,8 @@ pub fn earthc<S: Shelf, O: Sink, E: Sink, G: Gate + Sync, F: Fn(u64) -> u64 + Sy
     ensures bare { IsUnrun result.status → IsBare result }
     ensures no_command { IsNoCommand words.now → IsBare result }
     ensures no_command_unsaid { IsNoCommand words.now → IsUntouched (stream (O.written out.old) (O.written out.new) (O.count out.old) (O.count out.new)) }
-    ensures check_bare { (file : List ℕ) → IsCheck words.now file → IsBare result }
-    ensures check_unsaid { (file : List ℕ) → IsCheck words.now file → result.status ≡ Status.NoMemory → IsUntouched (stream (O.written out.old) (O.written out.new) (O.count out.old) (O.count out.new)) }
+    ensures plain_bare { (c : Command) → IsCommand words.now c → ForPlain c → IsBare result }
+    ensures plain_unsaid { (c : Command) → IsCommand words.now c → ForPlain c → result.status ≡ Status.NoMemory → IsUntouched (stream (O.written out.old) (O.written out.new) (O.count out.old) (O.count out.new)) }
 
     // A kept run is a run of the very code in the report, from the start that the words ask for.
     ensures last { (c : RunWords) → IsRun words.now c → (r : Run) → result.run ≡ Some r → HasLast c result r }
@@ -192,14 +212,14 @@ pub fn earthc<S: Shelf, O: Sink, E: Sink, G: Gate + Sync, F: Fn(u64) -> u64 + Sy
     ensures ended { (c : RunWords) → IsRun words.now c → (code : Code) (r : Run) (w : List Node) → IsLast c result code r w → HasRun result.status → HasEnded w → result.status ≡ Status.Done }
     ensures spent { (c : RunWords) → IsRun words.now c → (code : Code) (r : Run) (w : List Node) → IsLast c result code r w → result.status ≡ Status.StepsSpent → IsSpent r }
 
-    // What is written is said of the status, or of the last world; of an accepted source, that it is.
+    // What is written is said of the status, or of the last world.
     ensures says { IsUnrun result.status → Says (stream (O.written out.old) (O.written out.new) (O.count out.old) (O.count out.new)) (stream (E.written err.old) (E.written err.new) (E.count err.old) (E.count err.new)) (said_status result.status) }
-    ensures check_says { (file : List ℕ) → IsCheck words.now file → result.status ≡ Status.Done → Says (stream (O.written out.old) (O.written out.new) (O.count out.old) (O.count out.new)) (stream (E.written err.old) (E.written err.new) (E.count err.old) (E.count err.new)) said_accepted }
     ensures said { (c : RunWords) → IsRun words.now c → (code : Code) (r : Run) (w : List Node) → IsLast c result code r w → HasRun result.status → SaysLast (stream (O.written out.old) (O.written out.new) (O.count out.old) (O.count out.new)) (stream (E.written err.old) (E.written err.new) (E.count err.old) (E.count err.new)) w result.status }
 {
     match read_words(alloc, words) {
         Ok(command) => match &command {
             Command::Check(_) => plain(alloc, &command, shelf, out, err),
+            Command::Print(_) => plain(alloc, &command, shelf, out, err),
             Command::Run(_) => threaded(alloc, &command, shelf, out, err, gate, choose),
         },
         Err(Fail::Memory) => bare(alloc, err, Status::NoMemory),

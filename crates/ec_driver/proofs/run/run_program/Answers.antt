@@ -6,7 +6,7 @@ returns-in-Ok-drive g c =
     let s = c.in-Ok.ensures in
     let d = c.in-Ok-drive.ensures in
     let f = c.finish.ensures in
-    run_report c.args.program.now c.in-Ok.code c.in-Ok-drive.progress c.finish.result _ _ c.ended_runs_agree.ensures c.unended_runs_go_on.ensures c.texts_have_one_cut.ensures.one (record {
+    run_report c.args.program.now c.in-Ok.code c.in-Ok-drive.progress c.finish.result _ _ c.ended_runs_agree.ensures c.unended_runs_go_on.ensures c.sources_are_refused_once.ensures.accepted (record {
       sound = c.requires;
       owes = s.owes;
       valid = s.valid;

@@ -1,10 +1,12 @@
-use Rattle.ec_driver.proofs.Checked.{accepted_checked, bare_checked}
+use Rattle.std.proofs.Common.{codes, refl}
+use Rattle.ec_driver.specs.Source.{Checks, Rejects}
+use Rattle.ec_driver.proofs.Unrun.{bare_answer, checks_none, shown_answer}
 use Rattle.ec_driver.proofs.top.check_file.Goals as goal
 
 pub returns-in-Ok-clause-report : goal.returns-in-Ok-clause-report
 returns-in-Ok-clause-report g c =
-    let a = c.accept.ensures in
-    accepted_checked c.texts_have_one_cut.ensures.one _ _ _ _ _ _ _ _ _ _ _ c.in-Ok._program c.accept.result c.in-Ok.ensures.loaded.0 (record {
+    let a = c.show.ensures in
+    shown_answer Checks Rejects (checks_none c.sources_are_refused_once.ensures.accepted) (codes "accepted\n") _ _ _ _ _ _ _ _ _ _ _ c.show.result (let text = c.in-Ok.ensures.loaded.0 in (text.0, text.1, ((c.in-Ok._program, text.2), refl))) (record {
       status = a.status;
       output = a.output;
       quiet = a.quiet;
@@ -18,4 +20,4 @@ returns-in-Ok-clause-report g c =
 pub returns-in-Err-clause-report : goal.returns-in-Err-clause-report
 returns-in-Err-clause-report g c =
     let b = c.bare.ensures in
-    bare_checked c.texts_have_one_cut.ensures.one _ _ _ _ _ _ _ _ _ c.in-Err.status c.bare.result c.in-Err.ensures.loaded b.status b.said b.quiet b.write b.bare
+    bare_answer Checks Rejects c.sources_are_refused_once.ensures.once (checks_none c.sources_are_refused_once.ensures.accepted) _ _ _ _ _ _ _ _ _ c.in-Err.status c.bare.result c.in-Err.ensures.loaded b.status b.said b.quiet b.write b.bare

@@ -1,15 +1,25 @@
-use Rattle.std.proofs.Common.{◌≡◌, ℕ, List, sym, ◌∙◌}
-use Rattle.ec_driver.specs.declared.command.Command.TheVariants.{Check as CheckCommand}
 use Rattle.ec_driver.proofs.top.plain.Goals as goal
 
-same_file : (x y : List ℕ) → CheckCommand x ≡ CheckCommand y → x ≡ y
-same_file x y e = cc
+pub returns-in-Check-clause-refused_only : goal.returns-in-Check-clause-refused_only
+returns-in-Check-clause-refused_only g c = rw c.in-Check.is c.check_file.ensures.report.refused_only
 
-pub returns-clause-refused : goal.returns-clause-refused
-returns-clause-refused g c file e = rw (same_file _ _ (sym e ∙ c.in-Check.is)) c.check_file.ensures.report.refused
+pub returns-in-Check-clause-refused : goal.returns-in-Check-clause-refused
+returns-in-Check-clause-refused g c = rw c.in-Check.is c.check_file.ensures.report.refused
 
-pub returns-clause-accepted_only : goal.returns-clause-accepted_only
-returns-clause-accepted_only g c file e = rw (same_file _ _ (sym e ∙ c.in-Check.is)) c.check_file.ensures.report.accepted_only
+pub returns-in-Check-clause-shown : goal.returns-in-Check-clause-shown
+returns-in-Check-clause-shown g c = rw c.in-Check.is c.check_file.ensures.report.shown
 
-pub returns-clause-accepted : goal.returns-clause-accepted
-returns-clause-accepted g c file e = rw (same_file _ _ (sym e ∙ c.in-Check.is)) c.check_file.ensures.report.accepted
+pub returns-in-Check-clause-written : goal.returns-in-Check-clause-written
+returns-in-Check-clause-written g c = rw c.in-Check.is c.check_file.ensures.report.written
+
+pub returns-in-Print-clause-refused_only : goal.returns-in-Print-clause-refused_only
+returns-in-Print-clause-refused_only g c = rw c.in-Print.is c.print_file.ensures.report.refused_only
+
+pub returns-in-Print-clause-refused : goal.returns-in-Print-clause-refused
+returns-in-Print-clause-refused g c = rw c.in-Print.is c.print_file.ensures.report.refused
+
+pub returns-in-Print-clause-shown : goal.returns-in-Print-clause-shown
+returns-in-Print-clause-shown g c = rw c.in-Print.is c.print_file.ensures.report.shown
+
+pub returns-in-Print-clause-written : goal.returns-in-Print-clause-written
+returns-in-Print-clause-written g c = rw c.in-Print.is c.print_file.ensures.report.written

@@ -8,4 +8,4 @@ returns-in-Ok-clause-report g c =
 pub returns-in-Err-clause-report : goal.returns-in-Err-clause-report
 returns-in-Err-clause-report g c =
     let b = c.bare.ensures in
-    bare_report c.texts_have_one_cut.ensures.one _ _ _ _ _ _ _ _ _ _ c.in-Err.status c.bare.result c.in-Err.ensures.loaded b.status b.said b.quiet b.write b.bare
+    bare_report c.sources_are_refused_once.ensures.once c.sources_are_refused_once.ensures.accepted _ _ _ _ _ _ _ _ _ _ c.in-Err.status c.bare.result c.in-Err.ensures.loaded b.status b.said b.quiet b.write b.bare

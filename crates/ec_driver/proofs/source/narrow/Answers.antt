@@ -3,7 +3,7 @@ use Rattle.std.proofs.lemmas.Option.{slice_get_read}
 use Rattle.ec_base.specs.declared.token.Token.{Token}
 use Rattle.ec_driver.specs.Lines.{not_yet}
 use Rattle.ec_driver.proofs.Ends.{refuses_a_token}
-use Rattle.ec_driver.proofs.source.parse.Goals as goal
+use Rattle.ec_driver.proofs.source.narrow.Goals as goal
 
 pub bounds-tokens-at : goal.bounds-tokens-at
 bounds-tokens-at c = refuses_a_token c.args.tokens.now c.in-Err-Refused.at c.requires (rw c.in-Err-Refused.field-0-is at c.in-Err-Refused.ensures.answer)

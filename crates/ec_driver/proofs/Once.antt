@@ -1,0 +1,77 @@
+-- A source is refused once: it has one cut, of its tokens one is the first that fits no program of the whole language, and
+-- one the first that fits no small program.
+use Rattle.std.proofs.Common.{◌≡◌, ◌≤◌, ◌<◌, ◌+◌, ◌⊎◌, inl, inr, ℕ, List, [], ◌∷◌, ◌++◌, take, drop, refl, ap, sym, ◌∙◌, subst, append_assoc, arith, Some, slice_get}
+use Rattle.std.proofs.lemmas.List.{take-append-drop, take-take}
+use Rattle.std.proofs.lemmas.Bool.{cases_order}
+use Rattle.ec_base.specs.declared.token.Token.{Token}
+use Rattle.ec_lex.specs.Tokens.{TextsHaveOneCut}
+use Rattle.ec_reader.specs.Laws.{OneRefusal, RefusedIsNoProgram}
+use Rattle.ec_reader.specs.Refusals.{Refuses}
+use Rattle.ec_small.specs.Grammar as small
+use Rattle.ec_driver.specs.declared.status.Refusal.{Refusal}
+use Rattle.ec_driver.specs.Lines.{not_program, not_token, not_yet}
+use Rattle.ec_driver.specs.Source.{Breaks, Misfits, Rejects, Stops, StopsAt}
+use Rattle.ec_driver.proofs.Unique.{no_misfit, same_tokens, unbroken}
+
+some_eq : {A : Type 0} (x y : A) → Some x ≡ Some y → x ≡ y
+some_eq x y e = cc
+
+-- ---- of the tokens of a program that isn't small
+
+joined : (ts : small.Kinds) (i j : ℕ) (others : small.Kinds) → i ≤ j → take j ts ++ others ≡ take i ts ++ (drop i (take j ts) ++ others)
+joined ts i j others h =
+    ap (λ l. l ++ others) (sym (take-append-drop i (take j ts)) ∙ ap (λ l. l ++ drop i (take j ts)) (take-take i j ts h))
+    ∙ append_assoc (take i ts) (drop i (take j ts)) others
+
+-- what stands before the beginning of a program begins one
+shorter : (ts : small.Kinds) (i j : ℕ) → i ≤ j → small.Begins (take j ts) → small.Begins (take i ts)
+shorter ts i j h b = (drop i (take j ts) ++ b.0, b.1, subst (λ l. small.IsProgram l b.1) (joined ts i j b.0 h) b.2)
+
+any_kinds : (ts : small.Kinds) → small.BeginsLexically ts → small.Begins ts
+any_kinds ts b = (b.0, b.1, b.2)
+
+not_before : (tokens : List Token) (i j : ℕ) → small.Refuses tokens i → small.Refuses tokens j → i < j → ⊥
+not_before tokens i j a b h = a.here (omega (arith, b.within)) (shorter (small.kinds tokens) (i + 1) j (omega arith) (any_kinds (take j (small.kinds tokens)) b.before))
+
+by_order : (tokens : List Token) (i j : ℕ) → small.Refuses tokens i → small.Refuses tokens j → ((i ≡ j) ⊎ ((i < j) ⊎ (j < i))) → i ≡ j
+by_order tokens i j a b (inl h) = h
+by_order tokens i j a b (inr (inl h)) = absurd (not_before tokens i j a b h)
+by_order tokens i j a b (inr (inr h)) = absurd (not_before tokens j i b a h)
+
+same_stop : (tokens : List Token) (r s : Refusal) → StopsAt tokens r → StopsAt tokens s → r ≡ s
+same_stop tokens r s a b =
+    let same : a.at ≡ b.at = by_order tokens a.at b.at a.refuses b.refuses (cases_order a.at b.at) in
+    let there : Some a.token ≡ Some b.token = sym a.there ∙ ap (slice_get tokens) same ∙ b.there in
+    a.is ∙ ap (λ t. not_yet t.at) (some_eq a.token b.token there) ∙ sym b.is
+
+-- ---- of a text
+
+module _ (one : TextsHaveOneCut) (excluded : RefusedIsNoProgram) (once : OneRefusal) (bytes : List ℕ) where
+  same_break : (r s : Refusal) → Breaks bytes r → Breaks bytes s → r ≡ s
+  same_break r s a b =
+      let same : Some a.first ≡ Some b.first = (one bytes b.before (Some b.first) b.cuts a.before (Some a.first) a.cuts).1 in
+      a.is ∙ ap not_token (some_eq a.first b.first same) ∙ sym b.is
+
+  -- a program that isn't small has tokens, and is no misfit
+  no_stop : (r s : Refusal) → Stops bytes r → Misfits bytes s → ⊥
+  no_stop r s a m = no_misfit one excluded bytes a.tokens a.tree s a.source m
+
+  same_misfit : (r s : Refusal) → Misfits bytes r → Misfits bytes s → r ≡ s
+  same_misfit r s (inl a) (inl b) = a.1 ∙ sym b.1
+  same_misfit r s (inl a) (inr (inl b)) = absurd (omega (arith, a.0, b.short))
+  same_misfit r s (inl a) (inr (inr b)) = absurd (omega (arith, a.0, b.lexes.short))
+  same_misfit r s (inr (inl a)) (inl b) = absurd (omega (arith, a.short, b.0))
+  same_misfit r s (inr (inl a)) (inr (inl b)) = same_break r s a b
+  same_misfit r s (inr (inl a)) (inr (inr b)) = absurd (unbroken one bytes b.tokens r b.lexes a)
+  same_misfit r s (inr (inr a)) (inl b) = absurd (omega (arith, a.lexes.short, b.0))
+  same_misfit r s (inr (inr a)) (inr (inl b)) = absurd (unbroken one bytes a.tokens s a.lexes b)
+  same_misfit r s (inr (inr a)) (inr (inr b)) =
+      let refuses = subst (λ l. Refuses l a.first) (same_tokens one bytes a.tokens b.tokens a.lexes b.lexes) a.refuses in
+      a.is ∙ ap not_program (once b.tokens a.first b.first refuses b.refuses) ∙ sym b.is
+
+  pub same_refusal : (r s : Refusal) → Rejects bytes r → Rejects bytes s → r ≡ s
+  same_refusal r s (inl a) (inl b) = same_misfit r s a b
+  same_refusal r s (inl a) (inr b) = absurd (no_stop s r b a)
+  same_refusal r s (inr a) (inl b) = absurd (no_stop r s a b)
+  same_refusal r s (inr a) (inr b) =
+      same_stop b.tokens r s (subst (λ l. StopsAt l r) (same_tokens one bytes a.tokens b.tokens a.source.lexes b.source.lexes) a.stops) b.stops
