@@ -1,0 +1,1 @@
+int main(){ shared int s; int v; {^ addto(&s, 1); v = valueof(&s); ^} return v; }

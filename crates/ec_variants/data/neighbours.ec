@@ -1,0 +1,1 @@
+int main(){ int *a; int i; a = malloc(5 * sizeof(int)); forall (i = 0; i < 4; i++) a[i] = a[i + 1]; return 0; }

@@ -1,0 +1,1 @@
+int f(local int *q){ return *q; } int main(){ int *p; p = malloc(sizeof(int)); return f(p); }

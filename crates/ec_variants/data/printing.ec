@@ -1,0 +1,1 @@
+void p(){ printf("x"); } int main(){ {^ p(); ; ^} return 0; }

@@ -1,0 +1,2 @@
+-- how a text is judged
+pub mod Judged
