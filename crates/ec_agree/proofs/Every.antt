@@ -1,5 +1,6 @@
 -- Every act of the one node, and every list of choices.
 use Rattle.std.proofs.Common.{◌≡◌, ℕ, zero, suc, ◌==◌, ◌&&◌, Bool, true, false, not, List, [], ◌∷◌, Option, Some, None, is_some, refl, subst, slice_get}
+use Rattle.std.proofs.lemmas.Bool.{and_parts}
 use Rattle.std.specs.Prelude.{if◌then◌else◌, ℤ}
 use Rattle.ec_core.specs.declared.choice.Act.{Act}
 use Rattle.ec_core.specs.declared.choice.Act.TheVariants.{EuReady, EuSpawn, EuEvent, EuHungry, SuEvent, SuNet, SuReady, SuSend}
@@ -15,9 +16,8 @@ use Rattle.ec_core.specs.Run.{run, and_then, start}
 use Rattle.ec_small.specs.declared.tree.Program.{Program}
 use Rattle.ec_small.specs.Sound.{Sound}
 use Rattle.ec_split.specs.Cut.{code_of}
-use Rattle.ec_agree.proofs.Tests.{both}
-use Rattle.ec_agree.proofs.Seen.{Looks, event_looks, ready_looks}
-use Rattle.ec_agree.proofs.Stages.{Entering, expected, Stands}
+use Rattle.ec_agree.proofs.Shapes.Seen.{Looks, event_looks, ready_looks}
+use Rattle.ec_agree.proofs.Shapes.Stages.{Entering, expected, Stands}
 use Rattle.ec_agree.proofs.Turns.{entry_stands, message_stands}
 
 -- ---- the acts
@@ -99,7 +99,7 @@ no_other : (me peer pick : ℕ) (s : Node) →
 no_other zero zero pick s h = absurd (cc)
 no_other (suc me) zero pick s h = refl
 no_other me (suc peer) pick s h =
-    absurd (let a = (both (not (suc peer == me) && (pick == 0)) false h).1 in cc)
+    absurd (let a = (and_parts (not (suc peer == me) && (pick == 0)) false h).1 in cc)
 
 net_act : (p : Program) (me peer pick : ℕ) (s : Node) (w : List Node) →
     step (code_of p) (chosen SuNet me peer pick) (s ∷ []) ≡ Some w → ⊥

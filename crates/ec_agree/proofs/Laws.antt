@@ -17,8 +17,8 @@ use Rattle.ec_small.specs.Meaning.{meaning}
 use Rattle.ec_split.specs.Cut.{code_of}
 use Rattle.ec_core.specs.declared.eu.Frame.{Frame}
 use Rattle.ec_agree.specs.Agree.{Agrees, own, EndedRunsAgree, UnendedRunsGoOn}
-use Rattle.ec_agree.proofs.Seen.{Seen, Looks}
-use Rattle.ec_agree.proofs.Stages.{Stage, Entering, Halted, Sending, Printing, Told, Starting, Answering, Forgot, Answered, Closing, Over, Asks, Answers, expected, Good, rows}
+use Rattle.ec_agree.proofs.Shapes.Seen.{Seen, Looks}
+use Rattle.ec_agree.proofs.Shapes.Stages.{Stage, Entering, Halted, Sending, Printing, Told, Starting, Answering, Forgot, Answered, Closing, Over, Asks, Answers, expected, Good, rows}
 use Rattle.ec_agree.proofs.Every.{StandsIn, runs, started}
 
 -- ---- a world that has ended

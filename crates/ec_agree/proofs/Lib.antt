@@ -1,15 +1,7 @@
-mod Tests
--- what a node looks like, and at which stages
-mod Seen
-mod Cells
-mod Stages
--- what main's fibers do
-mod Expressions
-mod Statements
-mod Fibers
-mod Halting
-mod Entries
--- what every list of choices leads to
+-- what the laws rest on: what a node looks like, what runs of fibers make of it, and what each choice leads to
+mod Shapes
+mod Runs
 mod Turns
 mod Every
+-- the laws
 mod Laws

@@ -12,10 +12,10 @@ use Rattle.ec_core.specs.Handle.{handle}
 use Rattle.ec_small.specs.declared.tree.Program.{Program}
 use Rattle.ec_small.specs.Sound.{Sound}
 use Rattle.ec_split.specs.Cut.{code_of}
-use Rattle.ec_agree.proofs.Seen.{Seen, Looks, entry_taken, Entered, entry_looks, event_taken, Holds, Handled, handle_looks, no_entry, no_message}
-use Rattle.ec_agree.proofs.Cells.{frames_with}
-use Rattle.ec_agree.proofs.Stages.{Point, Asks, Answers, Stage, Entering, Halted, Sending, Printing, Told, Starting, Answering, Forgot, Answered, Closing, Over, expected, Good, Prints, Right, Stands, messages, main_back, main_call, main_slot, answer, rows, root_row}
-use Rattle.ec_agree.proofs.Entries.{Runs, main_enters, main_goes_on}
+use Rattle.ec_agree.proofs.Shapes.Seen.{Seen, Looks, entry_taken, Entered, entry_looks, event_taken, Holds, Handled, handle_looks, no_entry, no_message}
+use Rattle.ec_agree.proofs.Shapes.Cells.{frames_with}
+use Rattle.ec_agree.proofs.Shapes.Stages.{Point, Asks, Answers, Stage, Entering, Halted, Sending, Printing, Told, Starting, Answering, Forgot, Answered, Closing, Over, expected, Good, Prints, Right, Stands, messages, main_back, main_call, main_slot, answer, rows, root_row}
+use Rattle.ec_agree.proofs.Runs.Entries.{Runs, main_enters, main_goes_on}
 
 -- ---- entries
 

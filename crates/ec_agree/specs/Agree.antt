@@ -1,5 +1,5 @@
 -- When a world agrees with a meaning, and what every run of a small program's code gives.
-use Rattle.std.specs.Prelude.{◌≡◌, true, List, [], Some, ℤ}
+use Rattle.std.specs.Prelude.{◌≡◌, true, List, Some, ℤ}
 use Rattle.ec_core.specs.declared.choice.Act.{Act}
 use Rattle.ec_core.specs.declared.choice.Choice.{Choice}
 use Rattle.ec_core.specs.declared.code.Code.{Code}

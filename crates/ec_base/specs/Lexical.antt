@@ -1,8 +1,9 @@
 -- Tokens that a source text can give: one by one, and the tokens of a whole text.
-use Rattle.std.specs.Prelude.{◌≡◌, ◌≤◌, ◌<◌, ℕ, ◌^◌, pos, negsuc, Bool, true, false, not, ◌==◌, ◌&&◌, ◌||◌, nat_lt, List, [], ◌∷◌, length, map}
+use Rattle.std.specs.Prelude.{◌≡◌, ◌≤◌, ◌<◌, ℕ, ◌+◌, ◌^◌, pos, negsuc, Bool, true, false, not, ◌==◌, ◌&&◌, ◌||◌, nat_lt, List, [], ◌∷◌, length, map}
 use Rattle.std.specs.Char.{is_ascii_alphabetic, is_ascii_alphanumeric}
 use Rattle.std.specs.Int.{is_in_range}
 use Rattle.std.specs.List.{list_all}
+use Rattle.ec_base.specs.declared.limits.TheConstants.{MAX_SOURCE}
 use Rattle.ec_base.specs.declared.token.Token.{Token}
 use Rattle.ec_base.specs.declared.token.TokenKind.{TokenKind}
 use Rattle.ec_base.specs.declared.token.TokenKind.TheVariants as t
@@ -49,9 +50,9 @@ pub data Rises : ℕ → List Token → Type 0 where
   next : {from : ℕ} {x : Token} {rest : List Token} →
       is_end x.kind ≡ false → from ≤ x.at.from → x.at.from < x.at.to → Rises x.at.to rest → Rises from (x ∷ rest)
 
--- What holds of the tokens of each text of at most 1,048,576 bytes: there is at most one a byte and the end, they stand in
--- order, and a text can give each of them.
+-- What holds of the tokens of each source text of at most `MAX_SOURCE` bytes: there is at most one a byte and the end,
+-- they stand in order, and a text can give each of them.
 pub record AreTokens (tokens : List Token) : Type 0 where
-  pub few : length tokens ≤ 1048577
+  pub few : length tokens ≤ MAX_SOURCE + 1
   pub rising : Rises 0 tokens
   pub lexical : AllLexical (map (λ x. x.kind) tokens)

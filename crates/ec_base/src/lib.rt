@@ -1,6 +1,7 @@
 //! Values, places, texts and limits that every layer speaks of.
 //! `specs/Answers.antt` says how an answer may give way to want of memory, `specs/Format.antt` what `printf` writes, and
-//! `specs/Writes.antt` the same by rules, and `specs/Lexical.antt` which tokens a text can give.
+//! `specs/Writes.antt` the same by rules, `specs/Lexical.antt` which tokens a text can give, and `specs/Words.antt` which words
+//! are the language's own.
 #![tactic(auto)]
 
 mod fail;
@@ -12,13 +13,15 @@ mod text;
 mod token;
 mod tokens;
 mod value;
+mod words;
 
 pub use fail::{Fail, NoMemory};
 pub use format::{conversions, format_values};
 pub use laws::strings_write;
 pub use limits::{
-    MAX_BRANCHES, MAX_FUNCTIONS, MAX_MARKS, MAX_NAME, MAX_NESTING, MAX_PARAMETERS,
-    MAX_PRINT_ARGUMENTS, MAX_RING, MAX_SOURCE, MAX_STEPS, MAX_STRING, MAX_STRUCTS, MAX_VARIABLES,
+    MAX_BRANCHES, MAX_CODE_NAME, MAX_FUNCTIONS, MAX_MARKS, MAX_NAME, MAX_NESTING, MAX_NODES,
+    MAX_PARAMETERS, MAX_PRINT_ARGUMENTS, MAX_RING, MAX_SLOT_COUNT, MAX_SOURCE, MAX_STEPS,
+    MAX_STRING, MAX_STRUCTS, MAX_VARIABLES,
 };
 pub use operator::{BinOp, UnOp};
 pub use sqlite_items::{Boxed, Items as List};
@@ -26,6 +29,4 @@ pub use text::Text;
 pub use token::{Mark, Span, Token, TokenKind};
 pub use tokens::Tokens;
 pub use value::{Birth, Block, Value};
-
-#[cfg(test)]
-mod tests;
+pub use words::is_reserved;

@@ -1,7 +1,7 @@
 //! Operators on numbers of 64 bits.
 
 /// A binary operator of the language that evaluates both of its sides, named for what it does.
-#[derive(Clone, Copy, Debug, PartialEq, Eq)]
+#[derive(Clone, Copy)]
 pub enum BinOp {
     /// `+`, which wraps.
     Add,
@@ -38,7 +38,7 @@ pub enum BinOp {
 }
 
 /// A unary operator.
-#[derive(Clone, Copy, Debug, PartialEq, Eq)]
+#[derive(Clone, Copy)]
 pub enum UnOp {
     /// `-`, which wraps.
     Neg,

@@ -86,7 +86,7 @@ pub enum Mark {
 }
 
 /// What a token is. Reserved words are words too, and the bytes of a string are decoded.
-#[derive(Debug, Drop)]
+#[derive(Drop)]
 pub enum TokenKind {
     Word(Text),
     Number(i64),
@@ -96,7 +96,7 @@ pub enum TokenKind {
 }
 
 /// A token and where it stands.
-#[derive(Debug, Drop)]
+#[derive(Drop)]
 pub struct Token {
     pub kind: TokenKind,
     pub at: Span,

@@ -1,11 +1,9 @@
+-- what single functions rest on
 pub mod Rows
 pub mod Lists
+pub mod KnownSlots
+-- what the laws of steps rest on
 pub mod Enabled
 pub mod Handled
-pub mod Weights
-pub mod Moves
-pub mod Frames
-pub mod Pointers
-pub mod Grown
-pub mod Steady
-pub mod Kept
+-- what rooted worlds rest on
+pub mod Roots

@@ -1,4 +1,4 @@
--- what the contracts of `World` rest on
+-- what is to be believed: the machine, from its queues to its runs
 pub mod State
 pub mod Queues
 pub mod Fiber
@@ -7,8 +7,7 @@ pub mod Slots
 pub mod Handle
 pub mod Step
 pub mod Run
-pub mod Rooted
--- what code keeps
+-- what is to be believed: which code is valid, what every world keeps, and what is seen of it at its end
 pub mod Valid
--- what a run's end is held against
+pub mod Rooted
 pub mod Observed

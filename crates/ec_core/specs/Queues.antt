@@ -39,7 +39,12 @@ abbrev pub has_some_in : {A : Type 0} → Option (List A) → Bool
 has_some_in None = false
 has_some_in (Some q) = has_some q
 
--- ---- a step that may not be there
+-- ---- what may not be there
+
+-- the oldest item was taken and the rest is left, or there was none and nothing changed
+abbrev pub TookOldest : {A S : Type 0} → Option A → Option (A × S) → S → S → Type 0
+TookOldest None told old new = (told ≡ None) × (new ≡ old)
+TookOldest (Some first) told old new = told ≡ Some (first, new)
 
 -- a step was there and was taken, or there was none and nothing changed
 abbrev pub Took : {A : Type 0} → Bool → Option A → A → A → Type 0

@@ -18,10 +18,13 @@ flat (Some x) = x
 abbrev pub slot_of : ℕ → ℕ → List Row → Option Slot
 slot_of frame slot rows = flat (slice_get (row_in (slice_get rows frame)) slot)
 
+-- the row with this slot
+abbrev pub row_with : ℕ → Slot → Row → Row
+row_with slot x row = slice_set (grown (slot + 1) None row) slot (Some x)
+
 -- the rows with this slot of a frame
 abbrev pub with_slot : ℕ → ℕ → Slot → List Row → List Row
-with_slot frame slot x rows =
-    slice_set (grown (frame + 1) [] rows) frame (slice_set (grown (slot + 1) None (row_in (slice_get rows frame))) slot (Some x))
+with_slot frame slot x rows = slice_set (grown (frame + 1) [] rows) frame (row_with slot x (row_in (slice_get rows frame)))
 
 -- the rows without a frame's slots
 abbrev pub without : ℕ → List Row → List Row

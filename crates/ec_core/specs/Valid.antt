@@ -1,6 +1,7 @@
 -- Which code is valid: every number names something that exists, and every limit is kept.
 use Rattle.std.specs.Prelude.{ℕ, ◌==◌, ◌||◌, ◌&&◌, Bool, true, false, nat_lt, nat_le, List, [], ◌∷◌, length, Option, Some, None, slice_get}
 use Rattle.std.specs.List.{list_all, list_any}
+use Rattle.ec_base.specs.declared.limits.TheConstants.{MAX_CODE_NAME, MAX_SLOT_COUNT, MAX_STRING}
 use Rattle.ec_base.specs.Format.{conversions}
 use Rattle.ec_core.specs.declared.code.Instr.{Instr}
 use Rattle.ec_core.specs.declared.code.Instr.TheVariants as i
@@ -26,9 +27,9 @@ abbrev pub asks_for : ℕ → Option ℕ → Bool
 asks_for count None = false
 asks_for count (Some n) = n == count
 
--- a string of at most 255 bytes that asks for so many values
+-- a string within its limit that asks for so many values
 abbrev pub is_format : List ℕ → ℕ → Bool
-is_format string count = nat_le (length string) 255 && asks_for count (conversions string)
+is_format string count = nat_le (length string) MAX_STRING && asks_for count (conversions string)
 
 abbrev pub is_cell : Function → ℕ → Bool
 is_cell f c = nat_lt c f.cells
@@ -43,7 +44,7 @@ valid_instr f (i.Add d a b) = is_cell f d && is_cell f a && is_cell f b
 valid_instr f (i.Sub d a b) = is_cell f d && is_cell f a && is_cell f b
 valid_instr f (i.Mul d a b) = is_cell f d && is_cell f a && is_cell f b
 valid_instr f (i.InitSync slot count reset fiber) =
-    is_slot f slot && within 1 count 255 && within 1 reset 255 && nat_lt fiber (length f.fibers)
+    is_slot f slot && within 1 count MAX_SLOT_COUNT && within 1 reset MAX_SLOT_COUNT && nat_lt fiber (length f.fibers)
 valid_instr f (i.PrintSync string cells slot) =
     is_format string (length cells) && list_all (is_cell f) cells && is_slot f slot
 valid_instr f (i.EndFunction cells) = (length cells == f.results) && list_all (is_cell f) cells
@@ -65,7 +66,7 @@ abbrev pub is_name_byte : ℕ → Bool
 is_name_byte c = within 97 c 122 || within 65 c 90 || within 48 c 57 || (c == 95) || (c == 46)
 
 abbrev pub is_function_name : List ℕ → Bool
-is_function_name name = within 1 (length name) 80 && list_all is_name_byte name
+is_function_name name = within 1 (length name) MAX_CODE_NAME && list_all is_name_byte name
 
 abbrev pub valid_function : Function → Bool
 valid_function f =

@@ -2,7 +2,7 @@
 use ec_base::List;
 
 /// A kind of step. The first four are the execution unit's, the others the synchronisation unit's.
-#[derive(Clone, Copy, Debug, PartialEq, Eq)]
+#[derive(Clone, Copy)]
 pub enum Act {
     /// Takes the oldest ready entry and runs it.
     EuReady,
@@ -23,7 +23,7 @@ pub enum Act {
 }
 
 /// A step of a node's unit; `peer` and `pick` are 0 where the act doesn't use them.
-#[derive(Clone, Copy, Debug, PartialEq, Eq)]
+#[derive(Clone, Copy)]
 pub struct Choice {
     pub node: u32,
     pub act: Act,
@@ -32,7 +32,7 @@ pub struct Choice {
 }
 
 /// A choice and when it was made.
-#[derive(Clone, Copy, Debug, PartialEq, Eq)]
+#[derive(Clone, Copy)]
 pub struct Stamped {
     pub stamp: u64,
     pub choice: Choice,

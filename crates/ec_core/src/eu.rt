@@ -1,8 +1,8 @@
 //! The execution unit: it runs fibers.
-ghost use Rattle.std.specs.Prelude.{◌≡◌, IfOk, OnOk, MatchOption};
+ghost use Rattle.std.specs.Prelude.{◌≡◌, IfOk, OnOk};
 ghost use Rattle.ec_core.specs.Fiber.{as_int, cell_at, cells_at, end_frame, int_at, ints_at, put, put_all, says};
 ghost use Rattle.ec_core.specs.Entry.{lives, new_exec};
-ghost use Rattle.ec_core.specs.Queues.{has_some, taken};
+ghost use Rattle.ec_core.specs.Queues.{TookOldest, has_some, taken};
 
 use crate::message::Message;
 use crate::queue::Queue;
@@ -199,7 +199,8 @@ impl Eu {
 
     /// Takes the oldest message of the outbox.
     pub fn take_out(&mut self) -> Option<Message>
-        ensures { MatchOption result ((taken self.old.outbox ≡ None) × (self.new ≡ self.old)) (λ m. (taken self.old.outbox ≡ Some (m, self.new.outbox)) × (self.new ≡ record self.old { outbox = self.new.outbox })) }
+        ensures outbox { TookOldest result (taken self.old.outbox) self.old.outbox self.new.outbox }
+        ensures rest { self.new ≡ record self.old { outbox = self.new.outbox } }
     {
         self.outbox.pop()
     }

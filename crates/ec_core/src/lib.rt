@@ -18,6 +18,3 @@ pub use code::{Code, Fiber, Function, Instr};
 pub use message::{Back, Call, Entry, Message};
 pub use node::NotEnabled;
 pub use world::{World, enabled_exactly};
-
-#[cfg(test)]
-mod tests;

@@ -2,7 +2,7 @@
 use ec_base::{Birth, List, Text, Value};
 
 /// Where an answer goes: a slot of a frame of a node, and the cell that it fills.
-#[derive(Clone, Copy, Debug, PartialEq, Eq)]
+#[derive(Clone, Copy)]
 pub struct Back {
     pub node: u32,
     pub frame: u64,

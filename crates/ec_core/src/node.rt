@@ -39,17 +39,21 @@ impl Node {
     ) -> Result<Node, NoMemory>
         ensures { IfOk result (λ s. s ≡ fresh_node nodes slots ready) }
     {
+        let peers = Queues::new(alloc, nodes)?;
+        let net = Queues::new(alloc, nodes)?;
+        let eu = Eu::new(alloc)?;
+        let su = Su {
+            slots,
+            ready: Queue::new(alloc),
+            peers,
+            handled: 0,
+        };
         Ok(Node {
-            eu: Eu::new(alloc)?,
-            su: Su {
-                slots,
-                ready: Queue::new(alloc),
-                peers: Queues::new(alloc, nodes)?,
-                handled: 0,
-            },
+            eu,
+            su,
             ready,
             events: Queue::new(alloc),
-            net: Queues::new(alloc, nodes)?,
+            net,
         })
     }
 

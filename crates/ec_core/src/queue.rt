@@ -1,6 +1,6 @@
 //! Queues, and rows of queues.
-ghost use Rattle.std.specs.Prelude.{◌≡◌, [], ◌∷◌, ◌++◌, replicate, slice_get, IfOk, OnOk, OnErr, MatchOption};
-ghost use Rattle.ec_core.specs.Queues.{taken, put_at, taken_at, grown, has_some, has_some_in};
+ghost use Rattle.std.specs.Prelude.{◌≡◌, [], ◌∷◌, ◌++◌, replicate, slice_get, IfOk, OnOk, OnErr};
+ghost use Rattle.ec_core.specs.Queues.{TookOldest, taken, put_at, taken_at, grown, has_some, has_some_in};
 
 use ec_base::List;
 use std::alloc::{AllocError, Global};
@@ -53,7 +53,7 @@ impl<T: Drop> Queue<T> {
 
     /// Takes the oldest item.
     pub fn pop(&mut self) -> Option<T>
-        ensures { MatchOption result ((taken self.old ≡ None) × (self.new ≡ self.old)) (λ first. taken self.old ≡ Some (first, self.new)) }
+        ensures { TookOldest result (taken self.old) self.old self.new }
     {
         self.items.pop_front()
     }
@@ -103,7 +103,7 @@ impl<T: Drop> Queues<T> {
     /// Takes the oldest item of one queue.
     #[tactic(auto, using(crate::proofs::Rows::rows))]
     pub fn take(&mut self, at: usize) -> Option<T>
-        ensures { MatchOption result ((taken_at at self.old ≡ None) × (self.new ≡ self.old)) (λ first. taken_at at self.old ≡ Some (first, self.new)) }
+        ensures { TookOldest result (taken_at at self.old) self.old self.new }
     {
         if at >= self.all.len() {
             return None;

@@ -1,5 +1,5 @@
 //! The synchronisation unit: it owns the slots and routes messages.
-ghost use Rattle.std.specs.Prelude.{◌≡◌, OnOk};
+ghost use Rattle.std.specs.Prelude.{◌≡◌, IsSome, OnErr, OnOk};
 ghost use Rattle.ec_core.specs.Handle.{fills, handle, readies, routes, starts, syncs, to_peer, with_slots};
 ghost use Rattle.ec_core.specs.Slots.{set_up, slot_of};
 
@@ -29,7 +29,8 @@ impl Su {
         reset: u32,
         fiber: u32,
     ) -> Result<(), NoMemory>
-        ensures { OnOk result (self.new ≡ with_slots (set_up frame slot count reset fiber self.old.slots) self.old) }
+        ensures ok { OnOk result (self.new ≡ with_slots (set_up frame slot count reset fiber self.old.slots) self.old) }
+        ensures err { OnErr result (self.new ≡ self.old) }
     {
         let fillings = match self.slots.get(frame, slot) {
             Some(x) => x.fillings,
@@ -49,14 +50,16 @@ impl Su {
     }
 
     fn to_peer(&mut self, node: u32, message: Message) -> Result<(), NoMemory>
-        ensures { OnOk result (self.new ≡ to_peer node message self.old) }
+        ensures ok { OnOk result (self.new ≡ to_peer node message self.old) }
+        ensures err { OnErr result (self.new ≡ self.old) }
     {
         self.peers.put(node as usize, message)?;
         Ok(())
     }
 
     fn make_ready(&mut self, entry: Entry) -> Result<(), NoMemory>
-        ensures { OnOk result (self.new ≡ readies entry self.old) }
+        ensures ok { OnOk result (self.new ≡ readies entry self.old) }
+        ensures err { OnErr result (self.new ≡ self.old) }
     {
         self.ready.push(entry)?;
         Ok(())
@@ -64,7 +67,9 @@ impl Su {
 
     /// Makes the fiber of a filled slot ready.
     fn start(&mut self, frame: u64, slot: u32, x: Slot) -> Result<(), NoMemory>
-        ensures { OnOk result (self.new ≡ starts frame slot x x.fiber self.old) }
+        ensures slots { self.new.slots ≡ self.old.slots }
+        ensures ok { OnOk result (self.new ≡ starts frame slot x x.fiber self.old) }
+        ensures err { OnErr result (self.new ≡ self.old) }
     {
         match x.fiber {
             None => Ok(()),
@@ -77,20 +82,25 @@ impl Su {
         }
     }
 
-    fn fill(&mut self, alloc: Global, frame: u64, slot: u32, x: Slot) -> Result<(), NoMemory>
-        ensures { OnOk result (self.new ≡ fills frame slot x self.old) }
+    /// Fills a slot, which is known.
+    fn fill(&mut self, frame: u64, slot: u32, x: Slot) -> Result<(), NoMemory>
+        requires { IsSome (slot_of frame slot self.old.slots) }
+        ensures ok { OnOk result (self.new ≡ fills frame slot x self.old) }
+        ensures err { OnErr result (self.new ≡ self.old) }
     {
         let filled = Slot {
             count: x.reset as u64,
             fillings: x.fillings.saturating_add(1),
             ..x
         };
-        self.slots.put(alloc, frame, slot, filled)?;
-        self.start(frame, slot, filled)
+        self.start(frame, slot, filled)?;
+        self.slots.replace(frame, slot, filled);
+        Ok(())
     }
 
-    fn sync(&mut self, alloc: Global, frame: u64, slot: u32) -> Result<(), NoMemory>
-        ensures { OnOk result (self.new ≡ syncs frame slot (slot_of frame slot self.old.slots) self.old) }
+    fn sync(&mut self, frame: u64, slot: u32) -> Result<(), NoMemory>
+        ensures ok { OnOk result (self.new ≡ syncs frame slot (slot_of frame slot self.old.slots) self.old) }
+        ensures err { OnErr result (self.new ≡ self.old) }
     {
         match self.slots.get(frame, slot) {
             None => Ok(()),
@@ -100,16 +110,18 @@ impl Su {
                         count: x.count - 1,
                         ..x
                     };
-                    self.slots.put(alloc, frame, slot, less)
+                    self.slots.replace(frame, slot, less);
+                    Ok(())
                 } else {
-                    self.fill(alloc, frame, slot, x)
+                    self.fill(frame, slot, x)
                 }
             }
         }
     }
 
     fn route(&mut self, alloc: Global, me: u32, message: Message) -> Result<(), NoMemory>
-        ensures { OnOk result (self.new ≡ routes me message self.old) }
+        ensures ok { OnOk result (self.new ≡ routes me message self.old) }
+        ensures err { OnErr result (self.new ≡ self.old) }
     {
         match message {
             Message::Init {
@@ -121,7 +133,7 @@ impl Su {
             } => self.init(alloc, frame, slot, count, reset, fiber),
             Message::Sync { node, frame, slot } => {
                 if node == me {
-                    self.sync(alloc, frame, slot)
+                    self.sync(frame, slot)
                 } else {
                     self.to_peer(node, Message::Sync { node, frame, slot })
                 }
@@ -140,9 +152,10 @@ impl Su {
         }
     }
 
-    /// The effect of a message. After want of memory the unit may hold a part of it.
+    /// The effect of a message, or nothing where memory is wanted.
     pub fn handle(&mut self, alloc: Global, me: u32, message: Message) -> Result<(), NoMemory>
-        ensures { OnOk result (self.new ≡ handle me message self.old) }
+        ensures ok { OnOk result (self.new ≡ handle me message self.old) }
+        ensures err { OnErr result (self.new ≡ self.old) }
     {
         self.route(alloc, me, message)?;
         self.handled = self.handled.saturating_add(1);

@@ -9,7 +9,7 @@ use crate::choice::Choice;
 use crate::code::Code;
 use crate::node::NotEnabled;
 use crate::nodes::Nodes;
-use ec_base::{Fail, NoMemory, Text};
+use ec_base::{Fail, MAX_NODES, NoMemory, Text};
 use std::alloc::Global;
 use std::marker::Model;
 
@@ -37,7 +37,7 @@ impl World {
     /// The world in which node 0 enters main with these arguments.
     pub fn start(alloc: Global, code: &Code, nodes: u32, args: &[i64]) -> Result<World, NoMemory>
         requires some { 1 ≤ nodes }
-        requires few { nodes ≤ 16 }
+        requires few { nodes ≤ MAX_NODES }
         ensures { IfOk result (λ w. w ≡ record { nodes = start code.now nodes args.now; failed = false }) }
     {
         let nodes = Nodes::start(alloc, code, nodes, args)?;
@@ -48,7 +48,7 @@ impl World {
     }
 
     /// One step, where the choice is enabled. Want of memory fails the world.
-    #[tactic(auto, using(crate::proofs::Handled::handled_more, crate::proofs::Kept::step_keeps_rooted))]
+    #[tactic(auto, using(crate::proofs::Handled::handled_more, crate::proofs::Roots::Kept::step_keeps_rooted))]
     pub fn step(&mut self, alloc: Global, code: &Code, c: Choice) -> Result<(), Fail<NotEnabled>>
         ensures step { SteppedIn code.now c self.old result self.new }
         ensures handled { OnOk result (handled self.new.nodes ≤ handled self.old.nodes + 1) }

@@ -1,16 +1,5 @@
-mod Answering
-mod Comments
-mod Cutting
-mod Decoding
-mod Found
-mod Fronts
-mod Lexicals
-mod Marking
-mod OneCut
-mod Parts
-mod Quoted
-pub mod Scanning
-mod Spelling
-mod Told
-mod Values
-mod Whole
+-- what single functions rest on: parts of a text, and what stands at its front
+pub mod Inside
+pub mod AtFront
+-- what `lex` and the law of one cut rest on
+pub mod Cuts

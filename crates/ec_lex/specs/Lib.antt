@@ -1,8 +1,8 @@
--- what the contract of `lex` rests on
+-- what is to be believed: the tokens of a text and its first refusal
 pub mod Bytes
 pub mod Marks
 pub mod Tokens
--- the same, computed
+-- what the crate's functions promise each other: the same, computed
 pub mod Numbers
 pub mod Strings
 pub mod Front

@@ -7,13 +7,13 @@ ghost use Rattle.ec_lex.specs.Tokens.{Cuts, CutsInto, IsOnly, IsOnlyCut, number_
 use crate::fault::{Fault, LexRefusal, number};
 use crate::front::{Front, read_front};
 use crate::tokens::Scan;
-use ec_base::{Fail, List, NoMemory, Span, Token, TokenKind, Tokens};
+use ec_base::{Fail, List, MAX_SOURCE, NoMemory, Span, Token, TokenKind, Tokens};
 use std::alloc::Global;
 
 /// From the place `from` to the place `to` after the first `at` bytes of a text.
 fn span(at: usize, from: usize, to: usize) -> Span
-    requires from { at + from ≤ 1048576 }
-    requires to { at + to ≤ 1048576 }
+    requires from { at + from ≤ MAX_SOURCE }
+    requires to { at + to ≤ MAX_SOURCE }
     ensures { result ≡ spec.span at from to }
 {
     Span {
@@ -23,7 +23,7 @@ fn span(at: usize, from: usize, to: usize) -> Span
 }
 
 fn token(at: usize, kind: TokenKind, count: usize) -> Token
-    requires { at + count ≤ 1048576 }
+    requires { at + count ≤ MAX_SOURCE }
     ensures { result ≡ spec.token at kind count }
 {
     Token {
@@ -33,8 +33,8 @@ fn token(at: usize, kind: TokenKind, count: usize) -> Token
 }
 
 fn refusal(at: usize, fault: Fault, from: usize, to: usize) -> LexRefusal
-    requires from { at + from ≤ 1048576 }
-    requires to { at + to ≤ 1048576 }
+    requires from { at + from ≤ MAX_SOURCE }
+    requires to { at + to ≤ MAX_SOURCE }
     ensures { result ≡ record { what = number_of fault; at = spec.span at from to } }
 {
     LexRefusal {
@@ -44,9 +44,9 @@ fn refusal(at: usize, fault: Fault, from: usize, to: usize) -> LexRefusal
 }
 
 /// Cuts a text into tokens, up to its first refusal.
-#[tactic(auto, using(crate::proofs::Scanning::scanning), unfolding(crate::specs::Scan::scanned))]
+#[tactic(auto, using(crate::proofs::Cuts::Scanning::scanning), unfolding(crate::specs::Scan::scanned))]
 fn scan(alloc: Global, text: &[u8]) -> Result<Scan, NoMemory>
-    requires { length text.now ≤ 1048576 }
+    requires { length text.now ≤ MAX_SOURCE }
     ensures cuts { IfOk result (λ s. Cuts 0 true text.now s.tokens s.refusal) }
     ensures only { IfOk result (λ s. IsOnlyCut text.now s.tokens s.refusal) }
     ensures lexical { IfOk result (λ s. AllLexical (map (λ x. x.kind) s.tokens)) }
@@ -83,9 +83,9 @@ fn scan(alloc: Global, text: &[u8]) -> Result<Scan, NoMemory>
 }
 
 /// The tokens of a text, or its first refusal.
-#[tactic(auto, using(crate::proofs::Whole::are_tokens))]
+#[tactic(auto, using(crate::proofs::Cuts::Whole::are_tokens))]
 pub fn lex(alloc: Global, text: &[u8]) -> Result<Tokens, Fail<LexRefusal>>
-    requires { length text.now ≤ 1048576 }
+    requires { length text.now ≤ MAX_SOURCE }
     ensures cuts { CutsInto text.now result }
     ensures only { IsOnly text.now result }
 {

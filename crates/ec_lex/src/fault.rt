@@ -6,7 +6,7 @@ use ec_base::Span;
 use thiserror::Error;
 
 /// Why a text is refused, by its number, and where.
-#[derive(Clone, Copy, Debug, PartialEq, Eq, Error)]
+#[derive(Clone, Copy, Debug, Error)]
 #[error("refused {what}")]
 pub struct LexRefusal {
     pub what: u8,

@@ -33,7 +33,7 @@ pub enum Front {
     },
 }
 
-#[tactic(auto, using(crate::proofs::Lexicals::begins_is_word_byte), unfolding(crate::specs::Front::word))]
+#[tactic(auto, using(crate::proofs::AtFront::Lexicals::begins_is_word_byte), unfolding(crate::specs::Front::word))]
 fn read_word(alloc: Global, text: &[u8]) -> Result<Front, AllocError>
     requires { begins_word (slice_index text.now 0) ≡ true }
     ensures value { IfOk result (λ f. f ≡ spec.word text.now) }
@@ -47,7 +47,7 @@ fn read_word(alloc: Global, text: &[u8]) -> Result<Front, AllocError>
     })
 }
 
-#[tactic(auto, using(crate::proofs::Lexicals::number_lexical), unfolding(crate::specs::Front::number))]
+#[tactic(auto, using(crate::proofs::AtFront::Lexicals::number_lexical), unfolding(crate::specs::Front::number))]
 fn read_number(text: &[u8]) -> Front
     requires { is_ascii_digit (slice_index text.now 0) ≡ true }
     ensures value { result ≡ spec.number text.now }

@@ -10,8 +10,6 @@ mod laws;
 mod marks;
 mod numbers;
 mod strings;
-#[cfg(test)]
-mod tests;
 mod tokens;
 
 pub use cut::lex;

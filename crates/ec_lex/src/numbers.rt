@@ -22,7 +22,7 @@ fn with_digit(number: u64, digit: u8) -> Option<u64>
 }
 
 /// The number that a decimal up to 2^63 - 1 without needless zeros writes.
-#[tactic(auto, using(crate::proofs::Values::refused_digit), unfolding(crate::specs::Numbers::number_value))]
+#[tactic(auto, using(crate::proofs::AtFront::Values::refused_digit), unfolding(crate::specs::Numbers::number_value))]
 pub fn number_value(digits: &[u8]) -> Option<i64>
     ensures { result ≡ option_map pos (spec.number_value digits.now) }
 {

@@ -82,7 +82,7 @@ fn begin_of(escaped: bool, at: usize) -> usize
 }
 
 /// Decodes the inside of a string.
-#[tactic(auto, using(crate::proofs::Decoding::decoding))]
+#[tactic(auto, using(crate::proofs::Inside::Decoding::decoding))]
 pub fn decode(alloc: Global, inside: &[u8]) -> Result<Decoded, AllocError>
     requires { length inside.now < 2 ^ 63 }
     ensures value { IfOk result (λ d. d ≡ spec.decoded false 1 inside.now) }

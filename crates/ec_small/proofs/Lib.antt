@@ -2,7 +2,6 @@ pub mod Rules
 pub mod Sums
 pub mod SoundExpr
 pub mod Sound
-mod Reserved
 pub mod Marks
 pub mod Places
 pub mod Levels

@@ -8,8 +8,6 @@ mod meaning;
 mod names;
 mod program;
 mod statement;
-#[cfg(test)]
-mod tests;
 mod tokens;
 mod tree;
 mod words;

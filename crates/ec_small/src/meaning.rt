@@ -7,9 +7,6 @@ use crate::tree::{Expr, Operator, Program, Stmt};
 use ec_base::{List, NoMemory, Text, format_values};
 use std::alloc::Global;
 
-#[cfg(test)]
-mod tests;
-
 /// What a program means: its output, its result, and the ticks that it spends.
 #[derive(Drop)]
 pub struct Meant {

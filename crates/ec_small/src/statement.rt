@@ -24,11 +24,11 @@ pub(crate) struct Format {
 fn format_count(string: &Text) -> Option<u32>
     ensures { result ≡ format_count string.now }
 {
-    if string.len() > MAX_STRING {
+    if string.len() > MAX_STRING as usize {
         return None;
     }
     let count = conversions(string.as_slice())?;
-    if count as usize > MAX_PRINT_ARGUMENTS {
+    if count > MAX_PRINT_ARGUMENTS {
         None
     } else {
         Some(count)

@@ -2,6 +2,7 @@
 use Rattle.std.proofs.Common.{◌≡◌, refl, ℕ, List, [], ◌∷◌, length, Option, Some, None, Bool, true, ◌&&◌, nat_lt, nat_le}
 use Rattle.std.proofs.lemmas.Bool.{and_parts, and_from}
 use Rattle.std.specs.List.{list_all}
+use Rattle.ec_base.specs.declared.limits.TheConstants.{MAX_PRINT_ARGUMENTS, MAX_STRING}
 use Rattle.ec_base.specs.Format.{conversions}
 use Rattle.ec_small.specs.declared.tree.Expr.{Expr}
 use Rattle.ec_small.specs.declared.tree.Stmt.{Stmt}
@@ -27,8 +28,8 @@ small_init count (Some e) h = small count e h
 small_stmt : (count : ℕ) (s : Stmt) → is_sound_stmt count s ≡ true → is_small_stmt s ≡ true
 small_stmt count (Set x e) h = small count e (and_parts (nat_lt x count) (is_sound count e) h).1
 small_stmt count (Print s es) h =
-    let asked : Bool = nat_le (length s) 255 && asks (conversions s) (length es) in
-    let few : Bool = nat_le (length es) 8 in
+    let asked : Bool = nat_le (length s) MAX_STRING && asks (conversions s) (length es) in
+    let few : Bool = nat_le (length es) MAX_PRINT_ARGUMENTS in
     let both : ((asked && few) ≡ true) × (list_all (is_sound count) es ≡ true) = and_parts (asked && few) (list_all (is_sound count) es) h in
     and_from few (list_all is_small es) (and_parts asked few both.0).1 (list_all_weaker (is_sound count) is_small (small count) es both.1)
 

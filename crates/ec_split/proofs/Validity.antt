@@ -6,6 +6,7 @@ use Rattle.std.proofs.lemmas.List.{append_assoc, length-append}
 use Rattle.std.proofs.lemmas.List.Folds.{list_all-append, list_any-append}
 use Rattle.std.proofs.lemmas.List.FromFn.{length-range_with_len}
 use Rattle.std.specs.List.{list_all, list_any, range_with_len}
+use Rattle.ec_base.specs.declared.limits.TheConstants.{MAX_MARKS, MAX_PRINT_ARGUMENTS, MAX_STRING}
 use Rattle.ec_base.specs.Format.{conversions}
 use Rattle.ec_core.specs.declared.code.Instr.{Instr}
 use Rattle.ec_core.specs.declared.code.Instr.TheVariants as i
@@ -80,7 +81,7 @@ expr_valid f count = induction (Valid_in f count)
     (binary_valid f count)
 
 sound_declared : (count : ℕ) (e : Expr) → is_sound count e ≡ true → is_declared count e ≡ true
-sound_declared count e h = (and_parts (is_declared count e) (nat_le (operators e) 256) h).0
+sound_declared count e h = (and_parts (is_declared count e) (nat_le (operators e) MAX_MARKS) h).0
 
 -- ---- arguments
 
@@ -151,9 +152,9 @@ record Asks (count : ℕ) (s : List ℕ) (es : List Expr) : Type 0 where
 
 sound_print : (count : ℕ) (s : List ℕ) (es : List Expr) → is_sound_stmt count (Print s es) ≡ true → Asks count s es
 sound_print count s es h =
-    let short : Bool = nat_le (length s) 255 in
+    let short : Bool = nat_le (length s) MAX_STRING in
     let asked : Bool = asks (conversions s) (length es) in
-    let few : Bool = nat_le (length es) 8 in
+    let few : Bool = nat_le (length es) MAX_PRINT_ARGUMENTS in
     let last : ((short && asked && few) ≡ true) × (list_all (is_sound count) es ≡ true) = and_parts (short && asked && few) (list_all (is_sound count) es) h in
     let two : ((short && asked) ≡ true) × (few ≡ true) = and_parts (short && asked) few last.0 in
     let one : (short ≡ true) × (asked ≡ true) = and_parts short asked two.0 in

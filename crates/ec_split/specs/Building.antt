@@ -1,6 +1,7 @@
 -- What the fibers that stand so far come to, and which parts of a program have few operators.
 use Rattle.std.specs.Prelude.{◌≡◌, List, [], ◌∷◌, ◌++◌, length, Bool, true, ◌&&◌, nat_le, Option, Some, None}
 use Rattle.std.specs.List.{list_all}
+use Rattle.ec_base.specs.declared.limits.TheConstants.{MAX_MARKS, MAX_PRINT_ARGUMENTS}
 use Rattle.ec_core.specs.declared.code.Fiber.{Fiber}
 use Rattle.ec_core.specs.declared.code.Instr.{Instr}
 use Rattle.ec_small.specs.declared.tree.Expr.{Expr}
@@ -30,7 +31,7 @@ pub record Continues (s : Stmt) (old new : Builder) : Type 0 where
 -- ---- what has few operators
 
 abbrev pub is_small : Expr → Bool
-is_small e = nat_le (operators e) 256
+is_small e = nat_le (operators e) MAX_MARKS
 
 abbrev pub is_small_init : Option Expr → Bool
 is_small_init None = true
@@ -39,4 +40,4 @@ is_small_init (Some e) = is_small e
 -- a `printf` has few arguments too
 abbrev pub is_small_stmt : Stmt → Bool
 is_small_stmt (Set x e) = is_small e
-is_small_stmt (Print s es) = nat_le (length es) 8 && list_all is_small es
+is_small_stmt (Print s es) = nat_le (length es) MAX_PRINT_ARGUMENTS && list_all is_small es

@@ -5,16 +5,16 @@ ghost use Rattle.ec_small.specs.Sound.{is_sound};
 ghost use Rattle.ec_split.specs.Cut.{args_instrs};
 
 use crate::expression::expression;
-use ec_base::{List, NoMemory};
+use ec_base::{List, MAX_PRINT_ARGUMENTS, MAX_VARIABLES, NoMemory};
 use ec_core::Instr;
 use ec_small::Expr;
 use std::alloc::Global;
 
 /// Appends what computes arguments into the cells from `base` on.
 pub fn arguments(out: &mut List<Instr>, base: u32, es: &[Expr]) -> Result<(), NoMemory>
-    requires base { base ≤ 256 }
+    requires base { base ≤ MAX_VARIABLES }
     requires sound { list_all (is_sound base) es.now ≡ true }
-    requires few { length es.now ≤ 8 }
+    requires few { length es.now ≤ MAX_PRINT_ARGUMENTS }
     ensures { OnOk result (out.new ≡ out.old ++ args_instrs base es.now) }
 {
     let mut cell = base;

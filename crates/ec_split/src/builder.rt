@@ -9,7 +9,7 @@ ghost use Rattle.ec_split.specs.Building.{Continues, ended, goes_on, to_come};
 
 use crate::arguments::{arguments, cells_from};
 use crate::expression::expression;
-use ec_base::{List, NoMemory, Text};
+use ec_base::{List, MAX_MARKS, MAX_PRINT_ARGUMENTS, MAX_VARIABLES, NoMemory, Text};
 use ec_core::{Fiber, Instr};
 use ec_small::{Expr, Stmt};
 use std::alloc::Global;
@@ -46,7 +46,7 @@ impl Builder {
     }
 
     fn initialiser(&mut self, x: u32, init: &Option<Expr>) -> Result<(), NoMemory>
-        requires base { self.old.base ≤ 256 }
+        requires base { self.old.base ≤ MAX_VARIABLES }
         requires sound { is_sound_init self.old.base init.now ≡ true }
         ensures { OnOk result (self.new ≡ goes_on self.old (init_instrs self.old.base x (init.now ∷ []))) }
     {
@@ -58,8 +58,8 @@ impl Builder {
 
     /// Appends the initialisers of all variables.
     pub fn initialisers(&mut self, inits: &[Option<Expr>]) -> Result<(), NoMemory>
-        requires base { self.old.base ≤ 256 }
-        requires few { length inits.now ≤ 256 }
+        requires base { self.old.base ≤ MAX_VARIABLES }
+        requires few { length inits.now ≤ MAX_VARIABLES }
         requires sound { list_all (is_sound_init self.old.base) inits.now ≡ true }
         ensures { OnOk result (self.new ≡ goes_on self.old (init_instrs self.old.base 0 inits.now)) }
     {
@@ -74,8 +74,8 @@ impl Builder {
     /// Ends the fiber under way by a `printf`, whose end starts the next fiber. Where no number is left for that fiber,
     /// memory was wanted.
     fn print(&mut self, string: &Text, es: &List<Expr>) -> Result<(), NoMemory>
-        requires base { self.old.base ≤ 256 }
-        requires few { length es.now ≤ 8 }
+        requires base { self.old.base ≤ MAX_VARIABLES }
+        requires few { length es.now ≤ MAX_PRINT_ARGUMENTS }
         requires sound { list_all (is_sound self.old.base) es.now ≡ true }
         ensures { OnOk result (Continues (Print string.now es.now) self.old self.new) }
     {
@@ -93,7 +93,7 @@ impl Builder {
     }
 
     fn statement(&mut self, stmt: &Stmt) -> Result<(), NoMemory>
-        requires base { self.old.base ≤ 256 }
+        requires base { self.old.base ≤ MAX_VARIABLES }
         requires sound { is_sound_stmt self.old.base stmt.now ≡ true }
         ensures { OnOk result (Continues stmt.now self.old self.new) }
     {
@@ -105,7 +105,7 @@ impl Builder {
 
     /// Appends statements.
     pub fn statements(&mut self, stmts: &[Stmt]) -> Result<(), NoMemory>
-        requires base { self.old.base ≤ 256 }
+        requires base { self.old.base ≤ MAX_VARIABLES }
         requires sound { list_all (is_sound_stmt self.old.base) stmts.now ≡ true }
         ensures base { OnOk result (self.new.base ≡ self.old.base) }
         ensures fibers { OnOk result ((r : Expr) → to_come self.new [] r ≡ to_come self.old stmts.now r) }
@@ -118,8 +118,8 @@ impl Builder {
 
     /// Appends the result, and gives all fibers.
     pub fn finish(mut self, e: &Expr) -> Result<List<Fiber>, NoMemory>
-        requires base { self.base ≤ 256 }
-        requires few { operators e.now ≤ 256 }
+        requires base { self.base ≤ MAX_VARIABLES }
+        requires few { operators e.now ≤ MAX_MARKS }
         ensures { IfOk result (λ fs. fs ≡ to_come self [] e.now) }
     {
         expression(&mut self.instrs, self.base, self.base, e)?;

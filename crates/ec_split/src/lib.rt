@@ -10,6 +10,3 @@ mod function;
 mod width;
 
 pub use function::split;
-
-#[cfg(test)]
-mod tests;

@@ -5,9 +5,9 @@ use Rattle.ec_lex.specs.declared.front.Front.{Front}
 use Rattle.ec_base.specs.declared.token.TokenKind.TheVariants.{End}
 use Rattle.ec_lex.specs.Front.{IsFrontOf, IsLexicalFront}
 use Rattle.ec_lex.specs.Scan.{scanned_from, token}
-use Rattle.ec_lex.proofs.Lexicals.{lexical_push}
-use Rattle.ec_lex.proofs.Scanning.{joined, joined-put, scanned_from-skip, scanned_from-take}
-use Rattle.ec_lex.proofs.OneCut.{at_end, at_fault}
+use Rattle.ec_lex.proofs.AtFront.Lexicals.{lexical_push}
+use Rattle.ec_lex.proofs.Cuts.Scanning.{joined, joined-put, scanned_from-skip, scanned_from-take}
+use Rattle.ec_lex.proofs.Cuts.OneCut.{at_end, at_fault}
 use Rattle.ec_lex.proofs.cut.scan.Goals as goal
 
 pub loop-tokens-preserved-in-Skips : goal.loop-tokens-preserved-in-Skips

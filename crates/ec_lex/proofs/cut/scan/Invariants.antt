@@ -1,7 +1,7 @@
 use Rattle.std.proofs.Common.{◌≡◌, ◌≤◌, ◌-◌, length, drop, map}
 use Rattle.ec_base.specs.Lexical.{AllLexical}
 use Rattle.ec_lex.specs.Scan.{scanned, scanned_from}
-use Rattle.ec_lex.proofs.Scanning.{joined}
+use Rattle.ec_lex.proofs.Cuts.Scanning.{joined}
 use Rattle.ec_lex.proofs.cut.scan.Given as goal
 
 abbrev pub invariant-loop-tokens : goal.invariant-loop-tokens

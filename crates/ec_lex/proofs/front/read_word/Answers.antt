@@ -1,5 +1,5 @@
 use Rattle.std.proofs.Common.{◌∙◌}
-use Rattle.ec_lex.proofs.Lexicals.{word_lexical}
+use Rattle.ec_lex.proofs.AtFront.Lexicals.{word_lexical}
 use Rattle.ec_lex.proofs.front.read_word.Goals as goal
 
 pub returns-clause-lexical : goal.returns-clause-lexical

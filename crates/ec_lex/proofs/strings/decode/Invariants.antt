@@ -2,7 +2,7 @@ use Rattle.std.proofs.Common.{◌≡◌, ◌+◌, ◌≤◌, drop, false, true}
 use Rattle.std.specs.List.{list_all}
 use Rattle.ec_base.specs.Lexical.{is_string_byte}
 use Rattle.ec_lex.specs.Strings.{decoded}
-use Rattle.ec_lex.proofs.Decoding.{joined}
+use Rattle.ec_lex.proofs.Inside.Decoding.{joined}
 use Rattle.ec_lex.proofs.strings.decode.Given as goal
 
 abbrev pub invariant-loop-before : goal.invariant-loop-before

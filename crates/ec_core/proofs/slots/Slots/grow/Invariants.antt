@@ -1,6 +1,10 @@
-use Rattle.std.proofs.Common.{◌≡◌, ◌++◌, ◌-◌, replicate, []}
+use Rattle.std.proofs.Common.{◌≡◌, ◌≤◌, ◌++◌, ◌-◌, length, replicate, take, []}
 use Rattle.ec_core.specs.Queues.{grown}
 use Rattle.ec_core.proofs.slots.Slots.grow.Given as goal
 
 abbrev pub invariant-loop : goal.invariant-loop
-invariant-loop l = l.self-inside.rows.items ++ replicate (l.count - l.counter) [] ≡ grown l.count [] l.fn.self
+invariant-loop l = record {
+  before : l.before ≤ length l.self-inside.rows.items;
+  first : take l.before l.self-inside.rows.items ≡ l.fn.self;
+  value : l.self-inside.rows.items ++ replicate (l.count - l.counter) [] ≡ grown l.count [] l.fn.self;
+}

@@ -1,4 +1,4 @@
-use Rattle.ec_core.proofs.Kept.{started}
+use Rattle.ec_core.proofs.Roots.Kept.{started}
 use Rattle.ec_core.proofs.world.World.start.Goals as goal
 
 pub invariant_of-result : goal.invariant_of-result
