@@ -1,17 +1,6 @@
--- relations between tokens and values, and how they are put together
-pub mod State
-pub mod Language
--- the grammar
-pub mod Words
-pub mod Tokens
-pub mod Types
-pub mod Expressions
-pub mod Statements
-pub mod Items
-pub mod Reading
-pub mod Reader
-pub mod ReadTokens
-pub mod ReadExpressions
-pub mod ReadStatements
-pub mod ReadItems
+-- what is to be believed: which tokens are a program, with which tree, and which token is refused and why
+pub mod Grammar
+-- what the laws say: tokens have one tree, it is found, and otherwise one token is refused
 pub mod Laws
+-- what functions promise each other, and the proofs go by: the grammar as functions that look one token ahead
+pub mod Descent

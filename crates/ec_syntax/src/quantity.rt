@@ -1,6 +1,6 @@
 //! What has a limit, and why reading stops.
 ghost use Rattle.std.specs.Prelude.{◌≡◌};
-ghost use Rattle.ec_syntax.specs.State.{limit};
+ghost use Rattle.ec_syntax.specs.Grammar.State.{limit};
 
 use ec_base::{
     MAX_BRANCHES, MAX_FUNCTIONS, MAX_MARKS, MAX_NAME, MAX_NESTING, MAX_PARAMETERS,
@@ -35,14 +35,14 @@ impl Quantity {
         match self {
             Quantity::Nesting => MAX_NESTING,
             Quantity::Marks => MAX_MARKS,
-            Quantity::Variables => MAX_VARIABLES as u32,
+            Quantity::Variables => MAX_VARIABLES,
             Quantity::Parameters => MAX_PARAMETERS,
             Quantity::Functions => MAX_FUNCTIONS,
             Quantity::Structs => MAX_STRUCTS,
-            Quantity::Arguments => MAX_PRINT_ARGUMENTS as u32,
+            Quantity::Arguments => MAX_PRINT_ARGUMENTS,
             Quantity::Branches => MAX_BRANCHES,
-            Quantity::NameBytes => MAX_NAME as u32,
-            Quantity::StringBytes => MAX_STRING as u32,
+            Quantity::NameBytes => MAX_NAME,
+            Quantity::StringBytes => MAX_STRING,
         }
     }
 }

@@ -9,7 +9,7 @@ pub struct Decl {
     pub name: Name,
     pub mode: Mode,
     pub ty: Ty,
-    pub init: Option<Expr>,
+    pub init: Option<Boxed<Expr>>,
 }
 
 /// A place or variable is set to a value. `i++` is `i = i + 1`.
@@ -44,15 +44,15 @@ pub enum StmtKind {
     Body(Body),
     /// A parallel sequence of branches.
     Par(List<Stmt>),
-    If(Expr, Boxed<Stmt>, Option<Boxed<Stmt>>),
-    While(Expr, Boxed<Stmt>),
+    If(Boxed<Expr>, Boxed<Stmt>, Option<Boxed<Stmt>>),
+    While(Boxed<Expr>, Boxed<Stmt>),
     /// A missing condition holds.
-    For(Option<Assign>, Option<Expr>, Option<Assign>, Boxed<Stmt>),
-    Forall(Assign, Expr, Assign, Boxed<Stmt>),
-    Set(Assign),
-    Eval(Call),
-    WriteTo(Expr, Expr),
-    AddTo(Expr, Expr),
+    For(Option<Boxed<Assign>>, Option<Boxed<Expr>>, Option<Boxed<Assign>>, Boxed<Stmt>),
+    Forall(Boxed<Assign>, Boxed<Expr>, Boxed<Assign>, Boxed<Stmt>),
+    Set(Boxed<Assign>),
+    Eval(Boxed<Call>),
+    WriteTo(Boxed<Expr>, Boxed<Expr>),
+    AddTo(Boxed<Expr>, Boxed<Expr>),
     Print(Text, List<Expr>),
-    Return(Option<Expr>),
+    Return(Option<Boxed<Expr>>),
 }

@@ -1,6 +1,6 @@
-use Rattle.ec_syntax.proofs.Deciding.{one_tree, read_is_program, program_is_read, stopped_is_refused}
-use Rattle.ec_syntax.proofs.ProgramsDecide.{program_decides}
-use Rattle.ec_syntax.proofs.Refusing.{read_or_stopped}
+use Rattle.ec_syntax.proofs.Verdicts.Reading.{one_tree, read_is_program, program_is_read, stopped_is_refused}
+use Rattle.ec_syntax.proofs.Items.Programs.{program_decides}
+use Rattle.ec_syntax.proofs.Verdicts.Refusals.{read_or_stopped}
 use Rattle.ec_syntax.proofs.laws.reading_decides.Goals as goal
 
 pub returns : goal.returns

@@ -1,6 +1,6 @@
-use Rattle.ec_syntax.proofs.Deciding.{refused_is_no_program}
-use Rattle.ec_syntax.proofs.ProgramsDecide.{program_decides}
-use Rattle.ec_syntax.proofs.Refusing.{one_refusal, program_or_refused}
+use Rattle.ec_syntax.proofs.Verdicts.Reading.{refused_is_no_program}
+use Rattle.ec_syntax.proofs.Items.Programs.{program_decides}
+use Rattle.ec_syntax.proofs.Verdicts.Refusals.{one_refusal, program_or_refused}
 use Rattle.ec_syntax.proofs.laws.texts_are_decided.Goals as goal
 
 pub returns : goal.returns

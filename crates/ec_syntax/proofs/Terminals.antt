@@ -1,0 +1,3 @@
+-- Single tokens and types are decided.
+pub mod Tokens
+pub mod Types
