@@ -1,13 +1,5 @@
-pub mod Stopping
-pub mod Declaring
-pub mod Whole
-pub mod Reserved
-pub mod Turns
-pub mod Rooms
-pub mod Factors
-pub mod Limits
-pub mod Stmts
-pub mod Local
-pub mod Asking
-pub mod Brace
-pub mod Once
+-- what the crate's functions promise each other
+pub mod Loops
+pub mod Parts
+-- what the answer of `read` and the law that tokens are refused once rest on
+pub mod Refusals

@@ -7,10 +7,10 @@ use Rattle.ec_syntax.specs.declared.item.Item.{Item}
 use Rattle.ec_syntax.specs.declared.name.Base.{Base}
 use Rattle.ec_syntax.specs.declared.name.Mode.{Mode}
 use Rattle.ec_syntax.specs.declared.statement.Decl.{Decl}
-use Rattle.ec_syntax.specs.Reader.{Reader, give, ◌>>=◌, ◌>>◌}
-use Rattle.ec_syntax.specs.ReadTokens.{mark}
-use Rattle.ec_syntax.specs.ReadStatements.{declarator, declarators}
-use Rattle.ec_syntax.specs.ReadItems.{field_name, parameter, item}
+use Rattle.ec_syntax.specs.Descent.Reader.{Reader, give, ◌>>=◌, ◌>>◌}
+use Rattle.ec_syntax.specs.Descent.Tokens.{mark}
+use Rattle.ec_syntax.specs.Descent.Statements.{declarator, declarators}
+use Rattle.ec_syntax.specs.Descent.Items.{field_name, parameter, item}
 
 abbrev pub another_declarator : Reader Expr → Mode → Base → List Decl → Reader (List Decl)
 another_declarator value how b before = mark m.Comma >> (declarator value how b >>= (λ next. give (before ++ next ∷ [])))

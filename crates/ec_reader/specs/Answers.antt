@@ -6,11 +6,11 @@ use Rattle.ec_base.specs.declared.token.Token.{Token}
 use Rattle.ec_syntax.specs.declared.quantity.Fault.{Fault}
 use Rattle.ec_syntax.specs.declared.quantity.Fault.TheVariants.{Expected, Passes}
 use Rattle.ec_syntax.specs.declared.name.Name.{Name}
-use Rattle.ec_syntax.specs.Tokens.{name_of}
+use Rattle.ec_syntax.specs.Grammar.Tokens.{name_of}
 use Rattle.ec_syntax.specs.declared.quantity.Quantity.{Quantity}
-use Rattle.ec_syntax.specs.State.{State}
-use Rattle.ec_syntax.specs.Reader.{Outcome}
-use Rattle.ec_syntax.specs.Reader.Outcome.{Done, Stopped}
+use Rattle.ec_syntax.specs.Grammar.State.{State}
+use Rattle.ec_syntax.specs.Descent.Reader.{Outcome}
+use Rattle.ec_syntax.specs.Descent.Reader.Outcome.{Done, Stopped}
 
 -- The reader's value, with the cursor behind it, or its fault, with the cursor where it stops; or memory was wanted.
 abbrev pub Told : {A : Type 0} → Outcome A → Result A (Fail Fault) → State → Type 0

@@ -2,7 +2,7 @@
 use Rattle.std.specs.Prelude.{◌≡◌, List}
 use Rattle.ec_base.specs.declared.token.Token.{Token}
 use Rattle.ec_syntax.specs.declared.item.Program.{Program}
-use Rattle.ec_syntax.specs.Reading.{Reads}
+use Rattle.ec_syntax.specs.Grammar.Reading.{Reads}
 use Rattle.ec_reader.specs.declared.refusal.ReadRefusal.{ReadRefusal}
 use Rattle.ec_reader.specs.Refusals.{Refuses}
 

@@ -9,9 +9,8 @@ use Rattle.ec_syntax.specs.declared.item.Program.{Program}
 use Rattle.ec_syntax.specs.declared.quantity.Fault.{Fault}
 use Rattle.ec_syntax.specs.declared.quantity.Fault.TheVariants.{Expected, Passes}
 use Rattle.ec_syntax.specs.declared.quantity.Quantity.TheVariants.{Nesting, Structs}
-use Rattle.ec_syntax.specs.Language.{span}
-use Rattle.ec_syntax.specs.Reading.{Reads}
-use Rattle.ec_syntax.specs.Laws.{IsRefused}
+use Rattle.ec_syntax.specs.Grammar.Language.{span}
+use Rattle.ec_syntax.specs.Grammar.Reading.{Reads, IsRefused}
 use Rattle.ec_reader.specs.declared.refusal.ReadRefusal.{ReadRefusal}
 
 -- ---- the number

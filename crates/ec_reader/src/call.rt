@@ -1,7 +1,7 @@
 //! Names in expressions: variables, and calls with their arguments and placement. `room` is that for nesting below.
 ghost use Rattle.std.specs.Prelude.{◌≡◌, ◌≤◌, ◌<◌, length, OnOk};
-ghost use Rattle.ec_syntax.specs.Reader.{inside};
-ghost use Rattle.ec_syntax.specs.ReadExpressions.{begins_arguments, named, called, arguments, place, unary, expr_of};
+ghost use Rattle.ec_syntax.specs.Descent.Reader.{inside};
+ghost use Rattle.ec_syntax.specs.Descent.Expressions.{begins_arguments, named, called, arguments, place, unary, expr_of};
 ghost use Rattle.ec_reader.specs.Answers.{Told};
 ghost use Rattle.ec_reader.specs.Inside.{another_argument};
 
@@ -14,7 +14,11 @@ use std::alloc::Global;
 impl<'a> Cursor<'a> {
     /// Reads a variable, or a call of a function.
     #[cycle(expression)]
-    pub(crate) fn named(&mut self, alloc: Global, room: u32) -> Result<Expr, Fail<Fault>>
+    pub(crate) fn name_or_call(
+        &mut self,
+        alloc: Global,
+        room: u32,
+    ) -> Result<Boxed<Expr>, Fail<Fault>>
         ensures answer { Told (named room (expr_of (unary room)) self.old) result self.new }
         ensures takes { OnOk result (length self.new.left < length self.old.left) }
         ensures stays { length self.new.left ≤ length self.old.left }
@@ -22,47 +26,42 @@ impl<'a> Cursor<'a> {
         let from = self.begin();
         let name = self.name(alloc)?;
         if self.is_mark(Mark::OpenParen) {
-            return self.called(alloc, room, from, name);
+            return self.call_from(alloc, room, from, name);
         }
-        Ok(Expr {
-            kind: ExprKind::Var(name.text),
-            at: self.span_from(from),
-        })
+        Ok(self.made(alloc, from, ExprKind::Var(name.text))?)
     }
 
     /// Reads a call behind its name, from the place where the name begins.
     #[cycle(expression)]
-    fn called(
+    fn call_from(
         &mut self,
         alloc: Global,
         room: u32,
         from: u32,
         name: Name,
-    ) -> Result<Expr, Fail<Fault>>
+    ) -> Result<Boxed<Expr>, Fail<Fault>>
         ensures answer { Told (called room (expr_of (unary room)) from name self.old) result self.new }
         ensures takes { OnOk result (length self.new.left < length self.old.left) }
         ensures stays { length self.new.left ≤ length self.old.left }
     {
         self.sign(Mark::OpenParen)?;
-        let args = self.inner_arguments(alloc, room)?;
+        let args = self.nested_arguments(alloc, room)?;
         self.sign(Mark::CloseParen)?;
         let place = self.placement(alloc, room)?;
         let at = self.span_from(from);
-        Ok(Expr {
-            kind: ExprKind::Call(Call {
-                name,
-                args,
-                place,
-                at,
-            }),
+        let call = Call {
+            name,
+            args,
+            place,
             at,
-        })
+        };
+        Ok(self.made(alloc, from, ExprKind::Call(call))?)
     }
 
     /// Reads the arguments of a call, one deeper.
     #[cycle(expression)]
-    #[tactic(auto, using(crate::proofs::Rooms::inside_some, crate::proofs::Rooms::inside_none))]
-    fn inner_arguments(&mut self, alloc: Global, room: u32) -> Result<List<Expr>, Fail<Fault>>
+    #[tactic(auto, using(crate::proofs::Parts::Rooms::inside_some, crate::proofs::Parts::Rooms::inside_none))]
+    fn nested_arguments(&mut self, alloc: Global, room: u32) -> Result<List<Expr>, Fail<Fault>>
         ensures answer { Told (inside room begins_arguments (arguments (expr_of (unary room))) self.old) result self.new }
         ensures stays { length self.new.left ≤ length self.old.left }
     {
@@ -74,7 +73,7 @@ impl<'a> Cursor<'a> {
 
     /// Reads the arguments of a call.
     #[cycle(expression)]
-    #[tactic(auto, using(crate::proofs::Turns::going_more))]
+    #[tactic(auto, using(crate::proofs::Loops::Turns::going_more))]
     fn arguments(&mut self, alloc: Global, room: u32) -> Result<List<Expr>, Fail<Fault>>
         ensures answer { Told (arguments (expr_of (unary room)) self.old) result self.new }
         ensures stays { length self.new.left ≤ length self.old.left }
@@ -84,7 +83,7 @@ impl<'a> Cursor<'a> {
             return Ok(args);
         }
         let first = self.level(alloc, room, 10)?;
-        args.push(first)?;
+        args.push(first.into_inner())?;
         while self.is_mark(Mark::Comma) {
             args = self.another_argument(alloc, room, args)?;
         }
@@ -106,7 +105,7 @@ impl<'a> Cursor<'a> {
         let mut args = before;
         self.mark(Mark::Comma)?;
         let next = self.level(alloc, room, 10)?;
-        args.push(next)?;
+        args.push(next.into_inner())?;
         Ok(args)
     }
 
@@ -123,7 +122,7 @@ impl<'a> Cursor<'a> {
         if self.is_word(b"OWNER_OF") {
             self.word(b"OWNER_OF")?;
             let block = self.value(alloc, room)?;
-            return Ok(Placement::OwnerOf(Boxed::new(alloc, block)?));
+            return Ok(Placement::OwnerOf(block));
         }
         if self.is_word(b"HOME") {
             self.word(b"HOME")?;
@@ -132,7 +131,7 @@ impl<'a> Cursor<'a> {
         if self.is_word(b"NODE") {
             self.word(b"NODE")?;
             let number = self.value(alloc, room)?;
-            return Ok(Placement::Node(Boxed::new(alloc, number)?));
+            return Ok(Placement::Node(number));
         }
         self.word(b"ANYWHERE")?;
         Ok(Placement::Anywhere)

@@ -1,14 +1,15 @@
 //! Statements that hold others. `room` is that for what they hold, but for `statement`, which stands where so much room is.
 ghost use Rattle.std.specs.Prelude.{◌≡◌, ◌≤◌, ◌<◌, suc, [], length, OnOk};
 ghost use Rattle.ec_syntax.specs.declared.quantity.Quantity.TheVariants.{Branches};
-ghost use Rattle.ec_syntax.specs.Reader.{inside, turns, kth};
-ghost use Rattle.ec_syntax.specs.ReadTokens.{begins_stmt};
-ghost use Rattle.ec_syntax.specs.ReadExpressions.{expr};
-ghost use Rattle.ec_syntax.specs.ReadStatements.{sequence, contents, begins_contents, braces, branch, begins_parallel, otherwise, block, body, bare, stmt};
+ghost use Rattle.ec_syntax.specs.Descent.Reader.{inside, turns, kth};
+ghost use Rattle.ec_syntax.specs.Descent.Tokens.{begins_stmt};
+ghost use Rattle.ec_syntax.specs.Descent.Expressions.{expr};
+ghost use Rattle.ec_syntax.specs.Descent.Statements.{sequence, contents, begins_contents, braces, branch, otherwise, block, body, bare, stmt};
 ghost use Rattle.ec_reader.specs.Answers.{Told};
-ghost use Rattle.ec_reader.specs.Sentences.{another_stmt, parallel_one, choice_one, loop_one, for_one, forall_one};
+ghost use Rattle.ec_reader.specs.Sentences.{another_statement, parallel_statement, if_statement, while_statement, for_statement, forall_statement};
 
 use crate::cursor::Cursor;
+use crate::header::{ForHeader, ForallHeader};
 use crate::nested::too_deep;
 use crate::simple::limit_fault;
 use ec_base::{Boxed, Fail, List, MAX_BRANCHES, Mark};
@@ -18,8 +19,8 @@ use std::alloc::Global;
 impl<'a> Cursor<'a> {
     /// Reads a statement.
     #[cycle(statement)]
-    #[tactic(auto, using(crate::proofs::Stmts::stmt_none, crate::proofs::Stmts::stmt_some))]
-    pub(crate) fn statement(&mut self, alloc: Global, room: u32) -> Result<Stmt, Fail<Fault>>
+    #[tactic(auto, using(crate::proofs::Parts::Statements::stmt_none, crate::proofs::Parts::Statements::stmt_some))]
+    pub(crate) fn statement(&mut self, alloc: Global, room: u32) -> Result<Boxed<Stmt>, Fail<Fault>>
         ensures answer { Told (stmt room self.old) result self.new }
         ensures takes { OnOk result (length self.new.left < length self.old.left) }
         ensures stays { length self.new.left ≤ length self.old.left }
@@ -31,45 +32,45 @@ impl<'a> Cursor<'a> {
         if self.is_mark(Mark::OpenBrace) {
             self.block(alloc, below)
         } else {
-            self.bare(alloc, below)
+            self.bare_statement(alloc, below)
         }
     }
 
     /// Reads one more statement behind these.
     #[cycle(statement)]
-    fn another_stmt(
+    fn another_statement(
         &mut self,
         alloc: Global,
         room: u32,
         before: List<Stmt>,
     ) -> Result<List<Stmt>, Fail<Fault>>
-        ensures answer { Told (another_stmt room before self.old) result self.new }
+        ensures answer { Told (another_statement room before self.old) result self.new }
         ensures takes { OnOk result (length self.new.left < length self.old.left) }
         ensures stays { length self.new.left ≤ length self.old.left }
     {
         let mut all = before;
         let next = self.statement(alloc, room)?;
-        all.push(next)?;
+        all.push(next.into_inner())?;
         Ok(all)
     }
 
     /// Reads statements.
     #[cycle(statement)]
-    #[tactic(auto, using(crate::proofs::Turns::going_more))]
+    #[tactic(auto, using(crate::proofs::Loops::Turns::going_more))]
     fn sequence(&mut self, alloc: Global, room: u32) -> Result<List<Stmt>, Fail<Fault>>
         ensures answer { Told (sequence (stmt room) self.old) result self.new }
         ensures stays { length self.new.left ≤ length self.old.left }
     {
         let mut all = List::new(alloc);
         while self.begins_stmt() {
-            all = self.another_stmt(alloc, room, all)?;
+            all = self.another_statement(alloc, room, all)?;
         }
         Ok(all)
     }
 
     /// Reads declarations and statements one deeper.
     #[cycle(statement)]
-    #[tactic(auto, using(crate::proofs::Rooms::inside_some, crate::proofs::Rooms::inside_none))]
+    #[tactic(auto, using(crate::proofs::Parts::Rooms::inside_some, crate::proofs::Parts::Rooms::inside_none))]
     fn contents(&mut self, alloc: Global, room: u32) -> Result<Body, Fail<Fault>>
         ensures answer { Told (inside room begins_contents (contents (expr room) (stmt room)) self.old) result self.new }
         ensures stays { length self.new.left ≤ length self.old.left }
@@ -97,23 +98,25 @@ impl<'a> Cursor<'a> {
 
     /// Reads a statement in braces.
     #[cycle(statement)]
-    fn block(&mut self, alloc: Global, room: u32) -> Result<Stmt, Fail<Fault>>
+    fn block(&mut self, alloc: Global, room: u32) -> Result<Boxed<Stmt>, Fail<Fault>>
         ensures answer { Told (block room (stmt room) self.old) result self.new }
         ensures takes { OnOk result (length self.new.left < length self.old.left) }
         ensures stays { length self.new.left ≤ length self.old.left }
     {
         let from = self.begin();
         let body = self.braces(alloc, room)?;
-        Ok(Stmt {
-            kind: StmtKind::Body(body),
-            at: self.span_from(from),
-        })
+        Ok(self.statement_from(alloc, from, StmtKind::Body(body))?)
     }
 
     /// Reads a branch behind so many.
     #[cycle(statement)]
-    #[tactic(auto, using(crate::proofs::Limits::kth_within, crate::proofs::Limits::kth_past))]
-    fn next_branch(&mut self, alloc: Global, room: u32, before: usize) -> Result<Stmt, Fail<Fault>>
+    #[tactic(auto, using(crate::proofs::Parts::Limits::kth_within, crate::proofs::Parts::Limits::kth_past))]
+    fn next_branch(
+        &mut self,
+        alloc: Global,
+        room: u32,
+        before: usize,
+    ) -> Result<Boxed<Stmt>, Fail<Fault>>
         ensures answer { Told (kth Branches (suc before) begins_stmt room (stmt room) self.old) result self.new }
         ensures takes { OnOk result (length self.new.left < length self.old.left) }
         ensures stays { length self.new.left ≤ length self.old.left }
@@ -139,13 +142,13 @@ impl<'a> Cursor<'a> {
     {
         let mut all = before;
         let next = self.next_branch(alloc, room, all.len())?;
-        all.push(next)?;
+        all.push(next.into_inner())?;
         Ok(all)
     }
 
     /// Reads branches.
     #[cycle(statement)]
-    #[tactic(auto, using(crate::proofs::Turns::going_more))]
+    #[tactic(auto, using(crate::proofs::Loops::Turns::going_more))]
     fn branches(&mut self, alloc: Global, room: u32) -> Result<List<Stmt>, Fail<Fault>>
         ensures answer { Told (turns begins_stmt (branch room (stmt room)) [] self.old) result self.new }
         ensures stays { length self.new.left ≤ length self.old.left }
@@ -157,34 +160,22 @@ impl<'a> Cursor<'a> {
         Ok(all)
     }
 
-    /// Reads branches one deeper.
-    #[cycle(statement)]
-    #[tactic(auto, using(crate::proofs::Rooms::inside_some, crate::proofs::Rooms::inside_none))]
-    fn inner_branches(&mut self, alloc: Global, room: u32) -> Result<List<Stmt>, Fail<Fault>>
-        ensures answer { Told (inside room begins_parallel (turns begins_stmt (branch room (stmt room)) []) self.old) result self.new }
-        ensures stays { length self.new.left ≤ length self.old.left }
-    {
-        if room == 0 {
-            return Err(Fail::Refused(too_deep(self.begins_parallel())));
-        }
-        self.branches(alloc, room)
-    }
-
     /// Reads a parallel sequence.
     #[cycle(statement)]
-    fn parallel_one(&mut self, alloc: Global, room: u32) -> Result<Stmt, Fail<Fault>>
-        ensures answer { Told (parallel_one room self.old) result self.new }
+    #[tactic(auto, using(crate::proofs::Parts::Rooms::inside_some, crate::proofs::Parts::Rooms::inside_none))]
+    fn parallel_statement(&mut self, alloc: Global, room: u32) -> Result<Boxed<Stmt>, Fail<Fault>>
+        ensures answer { Told (parallel_statement room self.old) result self.new }
         ensures takes { OnOk result (length self.new.left < length self.old.left) }
         ensures stays { length self.new.left ≤ length self.old.left }
     {
         let from = self.begin();
         self.mark(Mark::OpenPar)?;
-        let branches = self.inner_branches(alloc, room)?;
+        if room == 0 {
+            return Err(Fail::Refused(too_deep(self.begins_parallel())));
+        }
+        let branches = self.branches(alloc, room)?;
         self.mark(Mark::ClosePar)?;
-        Ok(Stmt {
-            kind: StmtKind::Par(branches),
-            at: self.span_from(from),
-        })
+        Ok(self.statement_from(alloc, from, StmtKind::Par(branches))?)
     }
 
     /// Reads the body of an `if` or a loop.
@@ -195,16 +186,15 @@ impl<'a> Cursor<'a> {
         ensures stays { length self.new.left ≤ length self.old.left }
     {
         if self.is_mark(Mark::OpenBrace) {
-            let block = self.block(alloc, room)?;
-            return Ok(Boxed::new(alloc, block)?);
+            self.block(alloc, room)
+        } else {
+            self.statement(alloc, room)
         }
-        let bare = self.statement(alloc, room)?;
-        Ok(Boxed::new(alloc, bare)?)
     }
 
     /// Reads an `else` and what stands behind it, where there is one.
     #[cycle(statement)]
-    fn otherwise(&mut self, alloc: Global, room: u32) -> Result<Option<Boxed<Stmt>>, Fail<Fault>>
+    fn else_branch(&mut self, alloc: Global, room: u32) -> Result<Option<Boxed<Stmt>>, Fail<Fault>>
         ensures answer { Told (otherwise (body room (stmt room)) self.old) result self.new }
         ensures stays { length self.new.left ≤ length self.old.left }
     {
@@ -218,8 +208,8 @@ impl<'a> Cursor<'a> {
 
     /// Reads an `if`.
     #[cycle(statement)]
-    fn choice_one(&mut self, alloc: Global, room: u32) -> Result<Stmt, Fail<Fault>>
-        ensures answer { Told (choice_one room self.old) result self.new }
+    fn if_statement(&mut self, alloc: Global, room: u32) -> Result<Boxed<Stmt>, Fail<Fault>>
+        ensures answer { Told (if_statement room self.old) result self.new }
         ensures takes { OnOk result (length self.new.left < length self.old.left) }
         ensures stays { length self.new.left ≤ length self.old.left }
     {
@@ -227,17 +217,15 @@ impl<'a> Cursor<'a> {
         self.word(b"if")?;
         let test = self.condition(alloc, room)?;
         let then = self.body(alloc, room)?;
-        let other = self.otherwise(alloc, room)?;
-        Ok(Stmt {
-            kind: StmtKind::If(test.into_inner(), then, other),
-            at: self.span_from(from),
-        })
+        let other = self.else_branch(alloc, room)?;
+        let kind = StmtKind::If(test, then, other);
+        Ok(self.statement_from(alloc, from, kind)?)
     }
 
     /// Reads a `while`.
     #[cycle(statement)]
-    fn loop_one(&mut self, alloc: Global, room: u32) -> Result<Stmt, Fail<Fault>>
-        ensures answer { Told (loop_one room self.old) result self.new }
+    fn while_statement(&mut self, alloc: Global, room: u32) -> Result<Boxed<Stmt>, Fail<Fault>>
+        ensures answer { Told (while_statement room self.old) result self.new }
         ensures takes { OnOk result (length self.new.left < length self.old.left) }
         ensures stays { length self.new.left ≤ length self.old.left }
     {
@@ -245,68 +233,62 @@ impl<'a> Cursor<'a> {
         self.word(b"while")?;
         let test = self.condition(alloc, room)?;
         let body = self.body(alloc, room)?;
-        Ok(Stmt {
-            kind: StmtKind::While(test.into_inner(), body),
-            at: self.span_from(from),
-        })
+        let kind = StmtKind::While(test, body);
+        Ok(self.statement_from(alloc, from, kind)?)
     }
 
     /// Reads a `for`.
     #[cycle(statement)]
-    fn for_one(&mut self, alloc: Global, room: u32) -> Result<Stmt, Fail<Fault>>
-        ensures answer { Told (for_one room self.old) result self.new }
+    fn for_statement(&mut self, alloc: Global, room: u32) -> Result<Boxed<Stmt>, Fail<Fault>>
+        ensures answer { Told (for_statement room self.old) result self.new }
         ensures takes { OnOk result (length self.new.left < length self.old.left) }
         ensures stays { length self.new.left ≤ length self.old.left }
     {
         let from = self.begin();
         self.word(b"for")?;
-        let parts = self.for_header(alloc, room)?;
+        let header = self.for_header(alloc, room)?;
         let body = self.body(alloc, room)?;
-        let (first, (test, step)) = parts.into_inner();
-        Ok(Stmt {
-            kind: StmtKind::For(first, test, step, body),
-            at: self.span_from(from),
-        })
+        let ForHeader { first, test, step } = header;
+        let kind = StmtKind::For(first, test, step, body);
+        Ok(self.statement_from(alloc, from, kind)?)
     }
 
     /// Reads a `forall`.
     #[cycle(statement)]
-    fn forall_one(&mut self, alloc: Global, room: u32) -> Result<Stmt, Fail<Fault>>
-        ensures answer { Told (forall_one room self.old) result self.new }
+    fn forall_statement(&mut self, alloc: Global, room: u32) -> Result<Boxed<Stmt>, Fail<Fault>>
+        ensures answer { Told (forall_statement room self.old) result self.new }
         ensures takes { OnOk result (length self.new.left < length self.old.left) }
         ensures stays { length self.new.left ≤ length self.old.left }
     {
         let from = self.begin();
         self.word(b"forall")?;
-        let parts = self.forall_header(alloc, room)?;
+        let header = self.forall_header(alloc, room)?;
         let body = self.body(alloc, room)?;
-        let (first, (test, step)) = parts.into_inner();
-        Ok(Stmt {
-            kind: StmtKind::Forall(first, test, step, body),
-            at: self.span_from(from),
-        })
+        let ForallHeader { first, test, step } = header;
+        let kind = StmtKind::Forall(first, test, step, body);
+        Ok(self.statement_from(alloc, from, kind)?)
     }
 
     /// Reads a statement that isn't in braces.
     #[cycle(statement)]
-    fn bare(&mut self, alloc: Global, room: u32) -> Result<Stmt, Fail<Fault>>
+    fn bare_statement(&mut self, alloc: Global, room: u32) -> Result<Boxed<Stmt>, Fail<Fault>>
         requires { room < 4294967295 }
         ensures answer { Told (bare room (stmt room) self.old) result self.new }
         ensures takes { OnOk result (length self.new.left < length self.old.left) }
         ensures stays { length self.new.left ≤ length self.old.left }
     {
         if self.is_mark(Mark::OpenPar) {
-            self.parallel_one(alloc, room)
+            self.parallel_statement(alloc, room)
         } else if self.is_word(b"if") {
-            self.choice_one(alloc, room)
+            self.if_statement(alloc, room)
         } else if self.is_word(b"while") {
-            self.loop_one(alloc, room)
+            self.while_statement(alloc, room)
         } else if self.is_word(b"for") {
-            self.for_one(alloc, room)
+            self.for_statement(alloc, room)
         } else if self.is_word(b"forall") {
-            self.forall_one(alloc, room)
+            self.forall_statement(alloc, room)
         } else {
-            self.simple(alloc, room)
+            self.simple_statement(alloc, room)
         }
     }
 }

@@ -1,13 +1,13 @@
 //! A place in the tokens of a program, and what has been counted up to there.
-ghost use Rattle.std.specs.Prelude.{◌≡◌, ◌≤◌, ◌<◌, [], ◌∷◌, true, length, drop, MatchOption};
-ghost use Rattle.ec_syntax.specs.Language.{begin, span};
-ghost use Rattle.ec_syntax.specs.Items.{with_struct};
-ghost use Rattle.ec_syntax.specs.Tokens.{with_mark, with_variable, with_function};
+ghost use Rattle.std.specs.Prelude.{◌≡◌, ◌≤◌, ◌<◌, ◌+◌, [], ◌∷◌, true, length, drop, MatchOption};
+ghost use Rattle.ec_syntax.specs.Grammar.Language.{begin, span};
+ghost use Rattle.ec_syntax.specs.Grammar.Items.{with_struct};
+ghost use Rattle.ec_syntax.specs.Grammar.Tokens.{with_mark, with_variable, with_function};
 ghost use Rattle.ec_syntax.specs.declared.quantity.Quantity.TheVariants.{Marks, Variables, Functions, Structs};
-ghost use Rattle.ec_syntax.specs.Reading.{start};
+ghost use Rattle.ec_syntax.specs.Grammar.Reading.{start};
 ghost use Rattle.ec_reader.specs.Answers.{Counted, past};
 
-use ec_base::{MAX_FUNCTIONS, MAX_MARKS, MAX_STRUCTS, MAX_VARIABLES, Span, Token};
+use ec_base::{MAX_FUNCTIONS, MAX_MARKS, MAX_SOURCE, MAX_STRUCTS, MAX_VARIABLES, Span, Token};
 use ec_syntax::{Fault, Quantity};
 use std::marker::Model;
 
@@ -24,8 +24,9 @@ pub(crate) struct Cursor<'a> {
 }
 
 impl<'a> Model for Cursor<'a> {
-    ghost use Rattle.std.specs.Prelude.{◌≤◌, length, drop};
-    ghost use Rattle.ec_syntax.specs.State.{State};
+    ghost use Rattle.std.specs.Prelude.{◌≤◌, ◌+◌, length, drop};
+    ghost use Rattle.ec_base.specs.declared.limits.TheConstants.{MAX_SOURCE, MAX_MARKS, MAX_VARIABLES, MAX_FUNCTIONS, MAX_STRUCTS};
+    ghost use Rattle.ec_syntax.specs.Grammar.State.{State};
 
     ghost Value = { State };
 
@@ -38,13 +39,16 @@ impl<'a> Model for Cursor<'a> {
       structs = c.structs;
     } };
 
-    ghost invariant = { λ c. (length c.tokens.now ≤ 1048577) × (c.at ≤ length c.tokens.now) × ((c.marks ≤ 256) × ((c.variables ≤ 256) × ((c.functions ≤ 4096) × (c.structs ≤ 256)))) };
+    ghost invariant = { λ c.
+        (length c.tokens.now ≤ MAX_SOURCE + 1) × (c.at ≤ length c.tokens.now)
+        × ((c.marks ≤ MAX_MARKS) × ((c.variables ≤ MAX_VARIABLES)
+        × ((c.functions ≤ MAX_FUNCTIONS) × (c.structs ≤ MAX_STRUCTS)))) };
 }
 
 impl<'a> Cursor<'a> {
     /// Before the first token.
     pub(crate) fn new(tokens: &'a [Token]) -> Cursor<'a>
-        requires { length tokens.now ≤ 1048577 }
+        requires { length tokens.now ≤ MAX_SOURCE + 1 }
         ensures { result ≡ start tokens.now }
     {
         Cursor {
@@ -80,7 +84,8 @@ impl<'a> Cursor<'a> {
     /// Goes past the first token.
     pub(crate) fn step(&mut self)
         requires { 0 < length self.old.left }
-        ensures { self.new ≡ past self.old }
+        ensures is { self.new ≡ past self.old }
+        ensures few { length self.old.left ≤ 1048577 }
     {
         self.end = self.tokens[self.at].at.to;
         self.at += 1;
@@ -119,7 +124,7 @@ impl<'a> Cursor<'a> {
 
     /// Counts one more operator or bracket of a part.
     pub(crate) fn count_mark(&mut self) -> Result<(), Fault>
-        ensures answer { Counted Marks 256 self.old.marks (with_mark self.old) self.old result self.new }
+        ensures answer { Counted Marks MAX_MARKS self.old.marks (with_mark self.old) self.old result self.new }
         ensures stays { self.new.left ≡ self.old.left }
     {
         if self.marks >= MAX_MARKS {
@@ -131,10 +136,10 @@ impl<'a> Cursor<'a> {
 
     /// Counts one more variable of a function.
     pub(crate) fn count_variable(&mut self) -> Result<(), Fault>
-        ensures answer { Counted Variables 256 self.old.variables (with_variable self.old) self.old result self.new }
+        ensures answer { Counted Variables MAX_VARIABLES self.old.variables (with_variable self.old) self.old result self.new }
         ensures stays { self.new.left ≡ self.old.left }
     {
-        if self.variables >= MAX_VARIABLES as u32 {
+        if self.variables >= MAX_VARIABLES {
             return Err(Fault::Passes(Quantity::Variables));
         }
         self.variables += 1;
@@ -143,7 +148,7 @@ impl<'a> Cursor<'a> {
 
     /// Counts one more function.
     pub(crate) fn count_function(&mut self) -> Result<(), Fault>
-        ensures answer { Counted Functions 4096 self.old.functions (with_function self.old) self.old result self.new }
+        ensures answer { Counted Functions MAX_FUNCTIONS self.old.functions (with_function self.old) self.old result self.new }
         ensures stays { self.new.left ≡ self.old.left }
     {
         if self.functions >= MAX_FUNCTIONS {
@@ -155,7 +160,7 @@ impl<'a> Cursor<'a> {
 
     /// Counts one more struct.
     pub(crate) fn count_struct(&mut self) -> Result<(), Fault>
-        ensures answer { Counted Structs 256 self.old.structs (with_struct self.old) self.old result self.new }
+        ensures answer { Counted Structs MAX_STRUCTS self.old.structs (with_struct self.old) self.old result self.new }
         ensures stays { self.new.left ≡ self.old.left }
     {
         if self.structs >= MAX_STRUCTS {

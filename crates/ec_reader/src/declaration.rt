@@ -1,12 +1,12 @@
 //! Declarations of variables.
 ghost use Rattle.std.specs.Prelude.{◌≡◌, ◌≤◌, ◌<◌, length, OnOk, IfOk};
-ghost use Rattle.ec_syntax.specs.ReadExpressions.{expr};
-ghost use Rattle.ec_syntax.specs.ReadStatements.{initialiser, declarator, declarators, declaration};
+ghost use Rattle.ec_syntax.specs.Descent.Expressions.{expr};
+ghost use Rattle.ec_syntax.specs.Descent.Statements.{initialiser, declarator, declarators, declaration};
 ghost use Rattle.ec_reader.specs.Answers.{Told};
 ghost use Rattle.ec_reader.specs.Another.{another_declarator, declaration_on};
 
 use crate::cursor::Cursor;
-use ec_base::{Fail, List, Mark};
+use ec_base::{Boxed, Fail, List, Mark};
 use ec_syntax::{Base, Decl, Expr, Fault, Mode, Name, Ty};
 use std::alloc::{AllocError, Global};
 
@@ -30,7 +30,7 @@ impl<'a> Cursor<'a> {
         &mut self,
         alloc: Global,
         room: u32,
-    ) -> Result<Option<Expr>, Fail<Fault>>
+    ) -> Result<Option<Boxed<Expr>>, Fail<Fault>>
         ensures answer { Told (initialiser (expr room) self.old) result self.new }
         ensures stays { length self.new.left ≤ length self.old.left }
     {
@@ -88,7 +88,7 @@ impl<'a> Cursor<'a> {
     }
 
     /// Reads further variables behind the base of their type.
-    fn declarators(
+    fn further_variables(
         &mut self,
         alloc: Global,
         room: u32,
@@ -107,7 +107,7 @@ impl<'a> Cursor<'a> {
     }
 
     /// Reads a declaration behind its mode and base, and behind others.
-    fn declaration_on(
+    fn declaration_behind_base(
         &mut self,
         alloc: Global,
         room: u32,
@@ -122,7 +122,7 @@ impl<'a> Cursor<'a> {
         let mut all = before;
         let first = self.declarator(alloc, room, mode, &base)?;
         all.push(first)?;
-        let all = self.declarators(alloc, room, mode, &base, all)?;
+        let all = self.further_variables(alloc, room, mode, &base, all)?;
         self.mark(Mark::Semicolon)?;
         Ok(all)
     }
@@ -140,6 +140,6 @@ impl<'a> Cursor<'a> {
     {
         let mode = self.mode()?;
         let base = self.variable_base(alloc)?;
-        self.declaration_on(alloc, room, mode, base, before)
+        self.declaration_behind_base(alloc, room, mode, base, before)
     }
 }

@@ -1,14 +1,14 @@
 //! Expressions. `room` is that for nesting below what a method reads, but for `unary` and `expression`, which stand where so much
 //! room is.
 ghost use Rattle.std.specs.Prelude.{◌≡◌, ◌≤◌, ◌<◌, length, OnOk};
-ghost use Rattle.ec_syntax.specs.Reader.{inside};
-ghost use Rattle.ec_syntax.specs.ReadTokens.{begins_expr};
-ghost use Rattle.ec_syntax.specs.ReadExpressions.{levels, operation, postfix, selected, primary, unary, expr, expr_of};
+ghost use Rattle.ec_syntax.specs.Descent.Reader.{inside};
+ghost use Rattle.ec_syntax.specs.Descent.Tokens.{begins_expr};
+ghost use Rattle.ec_syntax.specs.Descent.Expressions.{levels, operation, postfix, selected, primary, unary, expr, expr_of};
 ghost use Rattle.ec_reader.specs.Answers.{Told};
-ghost use Rattle.ec_reader.specs.Inside.{index_value, indexed, prefixed, value};
+ghost use Rattle.ec_reader.specs.Inside.{indexed, prefixed, value};
 
 use crate::cursor::Cursor;
-use crate::nested::{index_of, join, too_deep};
+use crate::nested::{join, too_deep};
 use ec_base::{Boxed, Fail, Mark};
 use ec_syntax::{Expr, ExprKind, Fault};
 use std::alloc::Global;
@@ -16,8 +16,8 @@ use std::alloc::Global;
 impl<'a> Cursor<'a> {
     /// Reads an operand.
     #[cycle(expression)]
-    #[tactic(auto, using(crate::proofs::Rooms::unary_none))]
-    pub(crate) fn unary(&mut self, alloc: Global, room: u32) -> Result<Expr, Fail<Fault>>
+    #[tactic(auto, using(crate::proofs::Parts::Rooms::unary_none))]
+    pub(crate) fn unary(&mut self, alloc: Global, room: u32) -> Result<Boxed<Expr>, Fail<Fault>>
         ensures answer { Told (unary room self.old) result self.new }
         ensures takes { OnOk result (length self.new.left < length self.old.left) }
         ensures stays { length self.new.left ≤ length self.old.left }
@@ -37,7 +37,7 @@ impl<'a> Cursor<'a> {
 
     /// Reads an operator before its operand, with the operand.
     #[cycle(expression)]
-    fn prefixed(&mut self, alloc: Global, room: u32) -> Result<Expr, Fail<Fault>>
+    fn prefixed(&mut self, alloc: Global, room: u32) -> Result<Boxed<Expr>, Fail<Fault>>
         ensures answer { Told (prefixed room self.old) result self.new }
         ensures takes { OnOk result (length self.new.left < length self.old.left) }
         ensures stays { length self.new.left ≤ length self.old.left }
@@ -45,17 +45,14 @@ impl<'a> Cursor<'a> {
         let from = self.begin();
         let prefix = self.prefix()?;
         let operand = self.unary(alloc, room)?;
-        let kind = prefix.apply(Boxed::new(alloc, operand)?);
-        Ok(Expr {
-            kind,
-            at: self.span_from(from),
-        })
+        let kind = prefix.apply(operand);
+        Ok(self.made(alloc, from, kind)?)
     }
 
     /// Reads an operand and what selects parts of it.
     #[cycle(expression)]
-    #[tactic(auto, using(crate::proofs::Turns::going_more))]
-    fn postfix(&mut self, alloc: Global, room: u32) -> Result<Expr, Fail<Fault>>
+    #[tactic(auto, using(crate::proofs::Loops::Turns::going_more))]
+    fn postfix(&mut self, alloc: Global, room: u32) -> Result<Boxed<Expr>, Fail<Fault>>
         ensures answer { Told (postfix room (unary room) self.old) result self.new }
         ensures takes { OnOk result (length self.new.left < length self.old.left) }
         ensures stays { length self.new.left ≤ length self.old.left }
@@ -69,7 +66,12 @@ impl<'a> Cursor<'a> {
 
     /// Reads what selects a part of this operand.
     #[cycle(expression)]
-    fn selected(&mut self, alloc: Global, room: u32, operand: Expr) -> Result<Expr, Fail<Fault>>
+    fn selected(
+        &mut self,
+        alloc: Global,
+        room: u32,
+        operand: Boxed<Expr>,
+    ) -> Result<Boxed<Expr>, Fail<Fault>>
         ensures answer { Told (selected room (unary room) operand self.old) result self.new }
         ensures takes { OnOk result (length self.new.left < length self.old.left) }
         ensures stays { length self.new.left ≤ length self.old.left }
@@ -83,42 +85,32 @@ impl<'a> Cursor<'a> {
 
     /// Reads an index of this operand, in its brackets.
     #[cycle(expression)]
-    fn indexed(&mut self, alloc: Global, room: u32, operand: Expr) -> Result<Expr, Fail<Fault>>
+    fn indexed(
+        &mut self,
+        alloc: Global,
+        room: u32,
+        operand: Boxed<Expr>,
+    ) -> Result<Boxed<Expr>, Fail<Fault>>
         ensures answer { Told (indexed room operand self.old) result self.new }
         ensures takes { OnOk result (length self.new.left < length self.old.left) }
         ensures stays { length self.new.left ≤ length self.old.left }
     {
-        let from = operand.at.from;
-        let index = self.index(alloc, room)?;
-        let kind = index_of(alloc, operand, index)?;
-        Ok(Expr {
-            kind,
-            at: self.span_from(from),
-        })
-    }
-
-    /// Reads an index in its brackets.
-    #[cycle(expression)]
-    fn index(&mut self, alloc: Global, room: u32) -> Result<Expr, Fail<Fault>>
-        ensures answer { Told (index_value room self.old) result self.new }
-        ensures takes { OnOk result (length self.new.left < length self.old.left) }
-        ensures stays { length self.new.left ≤ length self.old.left }
-    {
+        let from = operand.get().at.from;
         self.sign(Mark::OpenBracket)?;
-        let index = self.inner(alloc, room)?;
+        let index = self.nested_expression(alloc, room)?;
         self.sign(Mark::CloseBracket)?;
-        Ok(index)
+        Ok(self.made(alloc, from, ExprKind::Index(operand, index))?)
     }
 
     /// Reads an expression of the operators that bind closer than this level.
     #[cycle(expression)]
-    #[tactic(auto, using(crate::proofs::Turns::going_more, crate::proofs::Rooms::levels_none))]
+    #[tactic(auto, using(crate::proofs::Loops::Turns::going_more, crate::proofs::Parts::Rooms::levels_none))]
     pub(crate) fn level(
         &mut self,
         alloc: Global,
         room: u32,
         level: u32,
-    ) -> Result<Expr, Fail<Fault>>
+    ) -> Result<Boxed<Expr>, Fail<Fault>>
         requires { level ≤ 10 }
         ensures answer { Told (levels level (unary room) self.old) result self.new }
         ensures takes { OnOk result (length self.new.left < length self.old.left) }
@@ -142,8 +134,8 @@ impl<'a> Cursor<'a> {
         alloc: Global,
         room: u32,
         level: u32,
-        left: Expr,
-    ) -> Result<Expr, Fail<Fault>>
+        left: Boxed<Expr>,
+    ) -> Result<Boxed<Expr>, Fail<Fault>>
         requires { level ≤ 9 }
         ensures answer { Told (operation level (levels level (unary room)) left self.old) result self.new }
         ensures takes { OnOk result (length self.new.left < length self.old.left) }
@@ -157,8 +149,8 @@ impl<'a> Cursor<'a> {
 
     /// Reads an expression one deeper.
     #[cycle(expression)]
-    #[tactic(auto, using(crate::proofs::Rooms::inside_some, crate::proofs::Rooms::inside_none))]
-    fn inner(&mut self, alloc: Global, room: u32) -> Result<Expr, Fail<Fault>>
+    #[tactic(auto, using(crate::proofs::Parts::Rooms::inside_some, crate::proofs::Parts::Rooms::inside_none))]
+    fn nested_expression(&mut self, alloc: Global, room: u32) -> Result<Boxed<Expr>, Fail<Fault>>
         ensures answer { Told (inside room begins_expr (expr_of (unary room)) self.old) result self.new }
         ensures takes { OnOk result (length self.new.left < length self.old.left) }
         ensures stays { length self.new.left ≤ length self.old.left }
@@ -171,7 +163,7 @@ impl<'a> Cursor<'a> {
 
     /// Reads what is no operator with an operand.
     #[cycle(expression)]
-    fn primary(&mut self, alloc: Global, room: u32) -> Result<Expr, Fail<Fault>>
+    fn primary(&mut self, alloc: Global, room: u32) -> Result<Boxed<Expr>, Fail<Fault>>
         ensures answer { Told (primary room (unary room) self.old) result self.new }
         ensures takes { OnOk result (length self.new.left < length self.old.left) }
         ensures stays { length self.new.left ≤ length self.old.left }
@@ -179,59 +171,47 @@ impl<'a> Cursor<'a> {
         let from = self.begin();
         if self.is_number() {
             let number = self.number()?;
-            return Ok(Expr {
-                kind: ExprKind::Number(number),
-                at: self.span_from(from),
-            });
+            return Ok(self.made(alloc, from, ExprKind::Number(number))?);
         }
         if self.is_name() {
-            return self.named(alloc, room);
+            return self.name_or_call(alloc, room);
         }
         if self.is_word(b"NULL") {
             self.word(b"NULL")?;
-            return Ok(Expr {
-                kind: ExprKind::Null,
-                at: self.span_from(from),
-            });
+            return Ok(self.made(alloc, from, ExprKind::Null)?);
         }
         if self.is_mark(Mark::OpenParen) {
             let kind = self.parenthesised(alloc, room)?;
-            return Ok(Expr {
-                kind,
-                at: self.span_from(from),
-            });
+            return Ok(self.made(alloc, from, kind)?);
         }
         if self.is_word(b"valueof") {
             self.word(b"valueof")?;
             let value = self.value(alloc, room)?;
-            let kind = ExprKind::ValueOf(Boxed::new(alloc, value)?);
-            return Ok(Expr {
-                kind,
-                at: self.span_from(from),
-            });
+            return Ok(self.made(alloc, from, ExprKind::ValueOf(value))?);
         }
         let kind = self.malloc(alloc, room, None)?;
-        Ok(Expr {
-            kind,
-            at: self.span_from(from),
-        })
+        Ok(self.made(alloc, from, kind)?)
     }
 
     /// Reads a value in brackets.
     #[cycle(expression)]
-    pub(crate) fn value(&mut self, alloc: Global, room: u32) -> Result<Expr, Fail<Fault>>
+    pub(crate) fn value(&mut self, alloc: Global, room: u32) -> Result<Boxed<Expr>, Fail<Fault>>
         ensures answer { Told (value room self.old) result self.new }
         ensures takes { OnOk result (length self.new.left < length self.old.left) }
         ensures stays { length self.new.left ≤ length self.old.left }
     {
         self.sign(Mark::OpenParen)?;
-        let value = self.inner(alloc, room)?;
+        let value = self.nested_expression(alloc, room)?;
         self.sign(Mark::CloseParen)?;
         Ok(value)
     }
 
     /// Reads an expression.
-    pub(crate) fn expression(&mut self, alloc: Global, room: u32) -> Result<Expr, Fail<Fault>>
+    pub(crate) fn expression(
+        &mut self,
+        alloc: Global,
+        room: u32,
+    ) -> Result<Boxed<Expr>, Fail<Fault>>
         ensures answer { Told (expr room self.old) result self.new }
         ensures takes { OnOk result (length self.new.left < length self.old.left) }
         ensures stays { length self.new.left ≤ length self.old.left }

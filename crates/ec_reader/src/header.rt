@@ -1,12 +1,12 @@
 //! What stands in parentheses behind the word of a statement, and the declarations before others. Headers are boxed until their
 //! statement is made, so that only one value is let go of where reading fails.
 ghost use Rattle.std.specs.Prelude.{◌≤◌, ◌<◌, [], length, OnOk};
-ghost use Rattle.ec_syntax.specs.Reader.{inside, turns, part};
-ghost use Rattle.ec_syntax.specs.ReadTokens.{begins_expr, begins_declaration};
-ghost use Rattle.ec_syntax.specs.ReadExpressions.{expr};
-ghost use Rattle.ec_syntax.specs.ReadStatements.{assignment, declaration, header, optional, begins_for, for_head, forall_head};
+ghost use Rattle.ec_syntax.specs.Descent.Reader.{inside, turns, part};
+ghost use Rattle.ec_syntax.specs.Descent.Tokens.{begins_expr, begins_declaration};
+ghost use Rattle.ec_syntax.specs.Descent.Expressions.{expr};
+ghost use Rattle.ec_syntax.specs.Descent.Statements.{assignment, declaration, header, optional, begins_for, for_head, forall_head};
 ghost use Rattle.ec_reader.specs.Answers.{Told, ToldBy};
-ghost use Rattle.ec_reader.specs.Sentences.{for_makes, for_test, for_step, for_end, forall_makes, forall_test, forall_step, forall_end};
+ghost use Rattle.ec_reader.specs.Sentences.{for_makes, forall_makes};
 
 use crate::cursor::Cursor;
 use crate::nested::too_deep;
@@ -14,15 +14,25 @@ use ec_base::{Boxed, Fail, List, Mark};
 use ec_syntax::{Assign, Decl, Expr, Fault};
 use std::alloc::Global;
 
-/// The parts of a `for`'s header.
-type ForParts = (Option<Assign>, (Option<Expr>, Option<Assign>));
+/// What stands between the parentheses of a `for`.
+#[derive(Drop)]
+pub(crate) struct ForHeader {
+    pub(crate) first: Option<Boxed<Assign>>,
+    pub(crate) test: Option<Boxed<Expr>>,
+    pub(crate) step: Option<Boxed<Assign>>,
+}
 
-/// The parts of a `forall`'s header.
-type ForallParts = (Assign, (Expr, Assign));
+/// What stands between the parentheses of a `forall`.
+#[derive(Drop)]
+pub(crate) struct ForallHeader {
+    pub(crate) first: Boxed<Assign>,
+    pub(crate) test: Boxed<Expr>,
+    pub(crate) step: Boxed<Assign>,
+}
 
 impl<'a> Cursor<'a> {
     /// Reads declarations.
-    #[tactic(auto, using(crate::proofs::Turns::going_more))]
+    #[tactic(auto, using(crate::proofs::Loops::Turns::going_more))]
     pub(crate) fn declarations(
         &mut self,
         alloc: Global,
@@ -39,8 +49,8 @@ impl<'a> Cursor<'a> {
     }
 
     /// Reads a condition one deeper.
-    #[tactic(auto, using(crate::proofs::Rooms::inside_some, crate::proofs::Rooms::inside_none))]
-    fn inner_condition(&mut self, alloc: Global, room: u32) -> Result<Boxed<Expr>, Fail<Fault>>
+    #[tactic(auto, using(crate::proofs::Parts::Rooms::inside_some, crate::proofs::Parts::Rooms::inside_none))]
+    fn nested_condition(&mut self, alloc: Global, room: u32) -> Result<Boxed<Expr>, Fail<Fault>>
         ensures answer { Told (inside room begins_expr (part (expr room)) self.old) result self.new }
         ensures stays { length self.new.left ≤ length self.old.left }
     {
@@ -48,8 +58,7 @@ impl<'a> Cursor<'a> {
             return Err(Fail::Refused(too_deep(self.begins_expr())));
         }
         self.begin_part();
-        let test = self.expression(alloc, room)?;
-        Ok(Boxed::new(alloc, test)?)
+        self.expression(alloc, room)
     }
 
     /// Reads a condition in parentheses.
@@ -58,13 +67,17 @@ impl<'a> Cursor<'a> {
         ensures stays { length self.new.left ≤ length self.old.left }
     {
         self.mark(Mark::OpenParen)?;
-        let test = self.inner_condition(alloc, room)?;
+        let test = self.nested_condition(alloc, room)?;
         self.mark(Mark::CloseParen)?;
         Ok(test)
     }
 
     /// Reads an assignment of a `for`'s header, where one stands.
-    fn maybe_assignment(&mut self, alloc: Global, room: u32) -> Result<Option<Assign>, Fail<Fault>>
+    fn optional_assignment(
+        &mut self,
+        alloc: Global,
+        room: u32,
+    ) -> Result<Option<Boxed<Assign>>, Fail<Fault>>
         ensures answer { Told (optional (assignment room) self.old) result self.new }
         ensures stays { length self.new.left ≤ length self.old.left }
     {
@@ -77,7 +90,11 @@ impl<'a> Cursor<'a> {
     }
 
     /// Reads the condition of a `for`'s header, where one stands.
-    fn maybe_expression(&mut self, alloc: Global, room: u32) -> Result<Option<Expr>, Fail<Fault>>
+    fn optional_expression(
+        &mut self,
+        alloc: Global,
+        room: u32,
+    ) -> Result<Option<Boxed<Expr>>, Fail<Fault>>
         ensures answer { Told (optional (expr room) self.old) result self.new }
         ensures stays { length self.new.left ≤ length self.old.left }
     {
@@ -89,170 +106,66 @@ impl<'a> Cursor<'a> {
         Ok(Some(test))
     }
 
-    /// Reads the last part of a `for`'s header behind the others.
-    fn for_end(
-        &mut self,
-        alloc: Global,
-        room: u32,
-        first: Option<Assign>,
-        test: Option<Expr>,
-    ) -> Result<ForParts, Fail<Fault>>
-        ensures answer { ToldBy for_makes (for_end room first test self.old) result self.new }
-        ensures stays { length self.new.left ≤ length self.old.left }
-    {
-        let step = self.maybe_assignment(alloc, room)?;
-        Ok((first, (test, step)))
-    }
-
-    /// Reads what stands in a `for`'s header behind its condition.
-    fn for_step(
-        &mut self,
-        alloc: Global,
-        room: u32,
-        first: Option<Assign>,
-        test: Option<Expr>,
-    ) -> Result<ForParts, Fail<Fault>>
-        ensures answer { ToldBy for_makes (for_step room first test self.old) result self.new }
-        ensures stays { length self.new.left ≤ length self.old.left }
-    {
-        self.mark(Mark::Semicolon)?;
-        self.for_end(alloc, room, first, test)
-    }
-
-    /// Reads what stands in a `for`'s header behind its first part.
-    fn for_test(
-        &mut self,
-        alloc: Global,
-        room: u32,
-        first: Option<Assign>,
-    ) -> Result<ForParts, Fail<Fault>>
-        ensures answer { ToldBy for_makes (for_test room first self.old) result self.new }
-        ensures stays { length self.new.left ≤ length self.old.left }
-    {
-        self.mark(Mark::Semicolon)?;
-        let test = self.maybe_expression(alloc, room)?;
-        self.for_step(alloc, room, first, test)
-    }
-
-    /// Reads the parts of a `for`'s header.
-    fn for_parts(&mut self, alloc: Global, room: u32) -> Result<ForParts, Fail<Fault>>
+    /// Reads the three parts of a `for`'s header, each of which may be missing.
+    fn for_parts(&mut self, alloc: Global, room: u32) -> Result<ForHeader, Fail<Fault>>
         ensures answer { ToldBy for_makes (for_head room self.old) result self.new }
         ensures stays { length self.new.left ≤ length self.old.left }
     {
-        let first = self.maybe_assignment(alloc, room)?;
-        self.for_test(alloc, room, first)
+        let first = self.optional_assignment(alloc, room)?;
+        self.mark(Mark::Semicolon)?;
+        let test = self.optional_expression(alloc, room)?;
+        self.mark(Mark::Semicolon)?;
+        let step = self.optional_assignment(alloc, room)?;
+        Ok(ForHeader { first, test, step })
     }
 
-    /// Reads the parts of a `for`'s header one deeper.
-    #[tactic(auto, using(crate::proofs::Rooms::inside_some, crate::proofs::Rooms::inside_none))]
-    fn inner_for(&mut self, alloc: Global, room: u32) -> Result<Boxed<ForParts>, Fail<Fault>>
-        ensures answer { ToldBy for_makes (inside room begins_for (for_head room) self.old) result self.new }
-        ensures stays { length self.new.left ≤ length self.old.left }
-    {
-        if room == 0 {
-            return Err(Fail::Refused(too_deep(self.begins_for())));
-        }
-        let parts = self.for_parts(alloc, room)?;
-        Ok(Boxed::new(alloc, parts)?)
-    }
-
-    /// Reads the header of a `for`.
-    pub(crate) fn for_header(
-        &mut self,
-        alloc: Global,
-        room: u32,
-    ) -> Result<Boxed<ForParts>, Fail<Fault>>
+    /// Reads the header of a `for`, in its parentheses.
+    #[tactic(auto, using(crate::proofs::Parts::Rooms::inside_some, crate::proofs::Parts::Rooms::inside_none))]
+    pub(crate) fn for_header(&mut self, alloc: Global, room: u32) -> Result<ForHeader, Fail<Fault>>
         ensures answer { ToldBy for_makes (header room begins_for (for_head room) self.old) result self.new }
         ensures stays { length self.new.left ≤ length self.old.left }
     {
         self.mark(Mark::OpenParen)?;
-        let parts = self.inner_for(alloc, room)?;
+        if room == 0 {
+            return Err(Fail::Refused(too_deep(self.begins_for())));
+        }
+        let header = self.for_parts(alloc, room)?;
         self.mark(Mark::CloseParen)?;
-        Ok(parts)
+        Ok(header)
     }
 
-    /// Reads the last part of a `forall`'s header behind the others.
-    fn forall_end(
-        &mut self,
-        alloc: Global,
-        room: u32,
-        first: Assign,
-        test: Expr,
-    ) -> Result<ForallParts, Fail<Fault>>
-        ensures answer { ToldBy forall_makes (forall_end room first test self.old) result self.new }
-        ensures stays { length self.new.left ≤ length self.old.left }
-    {
-        self.begin_part();
-        let step = self.assignment(alloc, room)?;
-        Ok((first, (test, step)))
-    }
-
-    /// Reads what stands in a `forall`'s header behind its condition.
-    fn forall_step(
-        &mut self,
-        alloc: Global,
-        room: u32,
-        first: Assign,
-        test: Expr,
-    ) -> Result<ForallParts, Fail<Fault>>
-        ensures answer { ToldBy forall_makes (forall_step room first test self.old) result self.new }
-        ensures stays { length self.new.left ≤ length self.old.left }
-    {
-        self.mark(Mark::Semicolon)?;
-        self.forall_end(alloc, room, first, test)
-    }
-
-    /// Reads what stands in a `forall`'s header behind its first part.
-    fn forall_test(
-        &mut self,
-        alloc: Global,
-        room: u32,
-        first: Assign,
-    ) -> Result<ForallParts, Fail<Fault>>
-        ensures answer { ToldBy forall_makes (forall_test room first self.old) result self.new }
-        ensures stays { length self.new.left ≤ length self.old.left }
-    {
-        self.mark(Mark::Semicolon)?;
-        self.begin_part();
-        let test = self.expression(alloc, room)?;
-        self.forall_step(alloc, room, first, test)
-    }
-
-    /// Reads the parts of a `forall`'s header.
-    fn forall_parts(&mut self, alloc: Global, room: u32) -> Result<ForallParts, Fail<Fault>>
+    /// Reads the three parts of a `forall`'s header.
+    fn forall_parts(&mut self, alloc: Global, room: u32) -> Result<ForallHeader, Fail<Fault>>
         ensures answer { ToldBy forall_makes (forall_head room self.old) result self.new }
         ensures stays { length self.new.left ≤ length self.old.left }
     {
         self.begin_part();
         let first = self.assignment(alloc, room)?;
-        self.forall_test(alloc, room, first)
+        self.mark(Mark::Semicolon)?;
+        self.begin_part();
+        let test = self.expression(alloc, room)?;
+        self.mark(Mark::Semicolon)?;
+        self.begin_part();
+        let step = self.assignment(alloc, room)?;
+        Ok(ForallHeader { first, test, step })
     }
 
-    /// Reads the parts of a `forall`'s header one deeper.
-    #[tactic(auto, using(crate::proofs::Rooms::inside_some, crate::proofs::Rooms::inside_none))]
-    fn inner_forall(&mut self, alloc: Global, room: u32) -> Result<Boxed<ForallParts>, Fail<Fault>>
-        ensures answer { ToldBy forall_makes (inside room begins_expr (forall_head room) self.old) result self.new }
-        ensures stays { length self.new.left ≤ length self.old.left }
-    {
-        if room == 0 {
-            return Err(Fail::Refused(too_deep(self.begins_expr())));
-        }
-        let parts = self.forall_parts(alloc, room)?;
-        Ok(Boxed::new(alloc, parts)?)
-    }
-
-    /// Reads the header of a `forall`.
+    /// Reads the header of a `forall`, in its parentheses.
+    #[tactic(auto, using(crate::proofs::Parts::Rooms::inside_some, crate::proofs::Parts::Rooms::inside_none))]
     pub(crate) fn forall_header(
         &mut self,
         alloc: Global,
         room: u32,
-    ) -> Result<Boxed<ForallParts>, Fail<Fault>>
+    ) -> Result<ForallHeader, Fail<Fault>>
         ensures answer { ToldBy forall_makes (header room begins_expr (forall_head room) self.old) result self.new }
         ensures stays { length self.new.left ≤ length self.old.left }
     {
         self.mark(Mark::OpenParen)?;
-        let parts = self.inner_forall(alloc, room)?;
+        if room == 0 {
+            return Err(Fail::Refused(too_deep(self.begins_expr())));
+        }
+        let header = self.forall_parts(alloc, room)?;
         self.mark(Mark::CloseParen)?;
-        Ok(parts)
+        Ok(header)
     }
 }

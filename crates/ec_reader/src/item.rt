@@ -1,8 +1,8 @@
 //! Structs and functions.
 ghost use Rattle.std.specs.Prelude.{◌≡◌, ◌≤◌, ◌<◌, length, OnOk};
-ghost use Rattle.ec_syntax.specs.Reader.{turns};
-ghost use Rattle.ec_syntax.specs.ReadTokens.{begins_base};
-ghost use Rattle.ec_syntax.specs.ReadItems.{size, field_name, field_names, fields, structure, parameter_on, parameter, further, is_void, parameters_on, parameters, procedure, structured, item};
+ghost use Rattle.ec_syntax.specs.Descent.Reader.{turns};
+ghost use Rattle.ec_syntax.specs.Descent.Tokens.{begins_base};
+ghost use Rattle.ec_syntax.specs.Descent.Items.{size, field_name, field_names, fields, structure, parameter_on, parameter, further, is_void, parameters_on, parameters, procedure, structured, item};
 ghost use Rattle.ec_reader.specs.Answers.{Told};
 ghost use Rattle.ec_reader.specs.Another.{another_field, another_parameter};
 
@@ -24,7 +24,7 @@ fn is_void(mode: Mode, base: &Base) -> bool
 
 impl<'a> Cursor<'a> {
     /// Reads the length of a field, where it is an array.
-    fn size(&mut self) -> Result<Option<i64>, Fail<Fault>>
+    fn array_length(&mut self) -> Result<Option<i64>, Fail<Fault>>
         ensures answer { Told (size self.old) result self.new }
         ensures stays { length self.new.left ≤ length self.old.left }
     {
@@ -38,14 +38,14 @@ impl<'a> Cursor<'a> {
     }
 
     /// Reads a field behind the base of its type.
-    fn field_name(&mut self, alloc: Global, base: &Base) -> Result<Field, Fail<Fault>>
+    fn field_declarator(&mut self, alloc: Global, base: &Base) -> Result<Field, Fail<Fault>>
         ensures answer { Told (field_name base.now self.old) result self.new }
         ensures takes { OnOk result (length self.new.left < length self.old.left) }
         ensures stays { length self.new.left ≤ length self.old.left }
     {
         let stars = self.stars()?;
         let name = self.name(alloc)?;
-        let array = self.size()?;
+        let array = self.array_length()?;
         let base = copy_base(alloc, base)?;
         Ok(Field {
             name,
@@ -67,14 +67,14 @@ impl<'a> Cursor<'a> {
     {
         let mut all = before;
         self.mark(Mark::Comma)?;
-        let next = self.field_name(alloc, base)?;
+        let next = self.field_declarator(alloc, base)?;
         all.push(next)?;
         Ok(all)
     }
 
     /// Reads further fields behind the base of their type.
-    #[tactic(auto, using(crate::proofs::Turns::going_more))]
-    fn field_names(
+    #[tactic(auto, using(crate::proofs::Loops::Turns::going_more))]
+    fn further_fields(
         &mut self,
         alloc: Global,
         base: &Base,
@@ -91,48 +91,56 @@ impl<'a> Cursor<'a> {
     }
 
     /// Reads fields of one base behind others.
-    fn fields(&mut self, alloc: Global, before: List<Field>) -> Result<List<Field>, Fail<Fault>>
+    fn field_declaration(
+        &mut self,
+        alloc: Global,
+        before: List<Field>,
+    ) -> Result<List<Field>, Fail<Fault>>
         ensures answer { Told (fields before self.old) result self.new }
         ensures takes { OnOk result (length self.new.left < length self.old.left) }
         ensures stays { length self.new.left ≤ length self.old.left }
     {
         let base = self.base(alloc)?;
         let mut all = before;
-        all.push(self.field_name(alloc, &base)?)?;
-        let all = self.field_names(alloc, &base, all)?;
+        all.push(self.field_declarator(alloc, &base)?)?;
+        let all = self.further_fields(alloc, &base, all)?;
         self.mark(Mark::Semicolon)?;
         Ok(all)
     }
 
     /// Reads all fields of a struct.
-    #[tactic(auto, using(crate::proofs::Turns::going_more))]
-    fn all_fields(&mut self, alloc: Global, first: List<Field>) -> Result<List<Field>, Fail<Fault>>
+    #[tactic(auto, using(crate::proofs::Loops::Turns::going_more))]
+    fn field_declarations(
+        &mut self,
+        alloc: Global,
+        first: List<Field>,
+    ) -> Result<List<Field>, Fail<Fault>>
         ensures answer { Told (turns begins_base fields first self.old) result self.new }
         ensures stays { length self.new.left ≤ length self.old.left }
     {
         let mut all = first;
         while self.begins_base() {
-            all = self.fields(alloc, all)?;
+            all = self.field_declaration(alloc, all)?;
         }
         Ok(all)
     }
 
     /// Reads a struct behind its name.
-    fn structure(&mut self, alloc: Global, name: Name) -> Result<Item, Fail<Fault>>
+    fn struct_definition(&mut self, alloc: Global, name: Name) -> Result<Item, Fail<Fault>>
         ensures answer { Told (structure name self.old) result self.new }
         ensures takes { OnOk result (length self.new.left < length self.old.left) }
         ensures stays { length self.new.left ≤ length self.old.left }
     {
         self.struct_brace()?;
-        let first = self.fields(alloc, List::new(alloc))?;
-        let fields = self.all_fields(alloc, first)?;
+        let first = self.field_declaration(alloc, List::new(alloc))?;
+        let fields = self.field_declarations(alloc, first)?;
         self.mark(Mark::CloseBrace)?;
         self.mark(Mark::Semicolon)?;
         Ok(Item::Struct(StructDef { name, fields }))
     }
 
     /// Reads a parameter behind its mode and base, and behind so many parameters.
-    fn parameter_on(
+    fn parameter_behind_base(
         &mut self,
         alloc: Global,
         before: usize,
@@ -161,7 +169,7 @@ impl<'a> Cursor<'a> {
     {
         let mode = self.mode()?;
         let base = self.base(alloc)?;
-        self.parameter_on(alloc, before, mode, base)
+        self.parameter_behind_base(alloc, before, mode, base)
     }
 
     /// Reads one more parameter behind these.
@@ -182,8 +190,12 @@ impl<'a> Cursor<'a> {
     }
 
     /// Reads further parameters.
-    #[tactic(auto, using(crate::proofs::Turns::going_more))]
-    fn further(&mut self, alloc: Global, before: List<Decl>) -> Result<List<Decl>, Fail<Fault>>
+    #[tactic(auto, using(crate::proofs::Loops::Turns::going_more))]
+    fn further_parameters(
+        &mut self,
+        alloc: Global,
+        before: List<Decl>,
+    ) -> Result<List<Decl>, Fail<Fault>>
         ensures answer { Told (further before self.old) result self.new }
         ensures stays { length self.new.left ≤ length self.old.left }
     {
@@ -195,7 +207,7 @@ impl<'a> Cursor<'a> {
     }
 
     /// Reads parameters behind the mode and the base of the first, which may be `void` alone.
-    fn parameters_on(
+    fn parameters_behind_base(
         &mut self,
         alloc: Global,
         mode: Mode,
@@ -208,8 +220,8 @@ impl<'a> Cursor<'a> {
         if is_void(mode, &base) && self.is_mark(Mark::CloseParen) {
             return Ok(all);
         }
-        all.push(self.parameter_on(alloc, 0, mode, base)?)?;
-        self.further(alloc, all)
+        all.push(self.parameter_behind_base(alloc, 0, mode, base)?)?;
+        self.further_parameters(alloc, all)
     }
 
     /// Reads what stands between the parentheses of a function.
@@ -222,11 +234,16 @@ impl<'a> Cursor<'a> {
         }
         let mode = self.mode()?;
         let base = self.base(alloc)?;
-        self.parameters_on(alloc, mode, base)
+        self.parameters_behind_base(alloc, mode, base)
     }
 
     /// Reads a function behind the base of its result.
-    fn procedure(&mut self, alloc: Global, room: u32, base: Base) -> Result<Item, Fail<Fault>>
+    fn function_definition(
+        &mut self,
+        alloc: Global,
+        room: u32,
+        base: Base,
+    ) -> Result<Item, Fail<Fault>>
         ensures answer { Told (procedure room base self.old) result self.new }
         ensures takes { OnOk result (length self.new.left < length self.old.left) }
         ensures stays { length self.new.left ≤ length self.old.left }
@@ -246,15 +263,20 @@ impl<'a> Cursor<'a> {
     }
 
     /// Reads an item behind a struct's name.
-    fn structured(&mut self, alloc: Global, room: u32, name: Name) -> Result<Item, Fail<Fault>>
+    fn struct_or_function(
+        &mut self,
+        alloc: Global,
+        room: u32,
+        name: Name,
+    ) -> Result<Item, Fail<Fault>>
         ensures answer { Told (structured room name self.old) result self.new }
         ensures takes { OnOk result (length self.new.left < length self.old.left) }
         ensures stays { length self.new.left ≤ length self.old.left }
     {
         if self.is_mark(Mark::OpenBrace) {
-            self.structure(alloc, name)
+            self.struct_definition(alloc, name)
         } else {
-            self.procedure(alloc, room, Base::Struct(name))
+            self.function_definition(alloc, room, Base::Struct(name))
         }
     }
 
@@ -268,10 +290,10 @@ impl<'a> Cursor<'a> {
         if self.is_word(b"struct") {
             self.word(b"struct")?;
             let name = self.name(alloc)?;
-            self.structured(alloc, room, name)
+            self.struct_or_function(alloc, room, name)
         } else {
             let base = self.base(alloc)?;
-            self.procedure(alloc, room, base)
+            self.function_definition(alloc, room, base)
         }
     }
 }

@@ -1,11 +1,10 @@
-//! Tests of single tokens.
+//! Tests of single tokens: what a token is, and the first sets, by which a reader is told what begins.
 ghost use Rattle.std.specs.Prelude.{◌≡◌, None, Some, MatchOption, option_copied};
-ghost use Rattle.ec_syntax.specs.Tokens.{is_mark, is_word, name_of, number_of, string_of};
-ghost use Rattle.ec_syntax.specs.ReadTokens.{is_name as names, is_number, is_string, begins_expr, begins_base, begins_declaration, begins_stmt};
-ghost use Rattle.ec_syntax.specs.Words.{is_among, is_name, reserved};
+ghost use Rattle.ec_syntax.specs.Grammar.Tokens.{is_mark, is_word, name_of, number_of, string_of};
+ghost use Rattle.ec_syntax.specs.Descent.Tokens.{is_name as names, is_number, is_string, begins_expr, begins_base, begins_declaration, begins_stmt};
 
 use crate::operators;
-use ec_base::{Mark, Text, Token, TokenKind};
+use ec_base::{Mark, Text, Token, TokenKind, is_reserved};
 
 /// Whether a token is this mark.
 pub(crate) fn is_mark(token: &Token, mark: Mark) -> bool
@@ -27,50 +26,12 @@ pub(crate) fn is_word(token: &Token, word: &[u8]) -> bool
     }
 }
 
-/// Whether a word names nothing of a program's own.
-fn is_reserved(word: &Text) -> bool
-    ensures { result ≡ is_among word.now reserved }
-{
-    match word.as_slice() {
-        b"int"
-        | b"void"
-        | b"struct"
-        | b"if"
-        | b"else"
-        | b"while"
-        | b"for"
-        | b"forall"
-        | b"return"
-        | b"local"
-        | b"shared"
-        | b"malloc"
-        | b"sizeof"
-        | b"printf"
-        | b"NULL"
-        | b"writeto"
-        | b"addto"
-        | b"valueof"
-        | b"OWNER_OF"
-        | b"HOME"
-        | b"NODE"
-        | b"ANYWHERE" => true,
-        _ => false,
-    }
-}
-
-/// Whether a word may be a name.
-fn may_name(word: &Text) -> bool
-    ensures { result ≡ is_name word.now }
-{
-    !is_reserved(word)
-}
-
 /// The name that a token is.
 pub(crate) fn name_of(token: &Token) -> Option<&Text>
     ensures { MatchOption result (name_of token.now ≡ None) (λ w. name_of token.now ≡ Some (record { text = w.now; at = token.now.at })) }
 {
     match &token.kind {
-        TokenKind::Word(word) => { if may_name(word) { Some(word) } else { None } }
+        TokenKind::Word(word) => { if is_reserved(word) { None } else { Some(word) } }
         _ => None,
     }
 }

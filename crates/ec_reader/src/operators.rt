@@ -1,6 +1,6 @@
 //! Operators of expressions.
 ghost use Rattle.std.specs.Prelude.{◌≡◌, option_map};
-ghost use Rattle.ec_syntax.specs.Expressions.{infix_of, at_level, of_mark, prefix_of, joined};
+ghost use Rattle.ec_syntax.specs.Grammar.Expressions.{infix_of, at_level, of_mark, prefix_of, joined};
 ghost use Rattle.ec_reader.specs.Operators.{makes, of_pair, prefixes};
 
 use ec_base::{BinOp, Boxed, Mark, Token, TokenKind, UnOp};

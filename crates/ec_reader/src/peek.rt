@@ -1,10 +1,10 @@
-//! What stands next.
+//! The lookahead: whether the token that stands next is of a kind, or in the first set of a part of the language.
 ghost use Rattle.std.specs.Prelude.{◌≡◌};
-ghost use Rattle.ec_syntax.specs.Language.{first_is};
-ghost use Rattle.ec_syntax.specs.Tokens.{is_mark, is_word};
-ghost use Rattle.ec_syntax.specs.ReadTokens.{is_name as names, is_number, is_string, is_prefix, begins_expr, begins_base, begins_declaration, begins_stmt};
-ghost use Rattle.ec_syntax.specs.ReadExpressions.{is_selector, is_at_level, begins_arguments, begins_amount};
-ghost use Rattle.ec_syntax.specs.ReadStatements.{begins_contents, begins_parallel, begins_for};
+ghost use Rattle.ec_syntax.specs.Grammar.Language.{first_is};
+ghost use Rattle.ec_syntax.specs.Grammar.Tokens.{is_mark, is_word};
+ghost use Rattle.ec_syntax.specs.Descent.Tokens.{is_name as names, is_number, is_string, is_prefix, begins_expr, begins_base, begins_declaration, begins_stmt};
+ghost use Rattle.ec_syntax.specs.Descent.Expressions.{is_selector, is_at_level, begins_arguments, begins_amount};
+ghost use Rattle.ec_syntax.specs.Descent.Statements.{begins_contents, begins_parallel, begins_for};
 ghost use Rattle.ec_reader.specs.Inside.{begins_parenthesised};
 
 use crate::cursor::Cursor;

@@ -1,7 +1,7 @@
 //! Whole programs.
 ghost use Rattle.std.specs.Prelude.{◌≡◌, ◌≤◌, ◌<◌, [], length, OnOk};
-ghost use Rattle.ec_syntax.specs.Reader.{turns};
-ghost use Rattle.ec_syntax.specs.ReadItems.{begins_item, program};
+ghost use Rattle.ec_syntax.specs.Descent.Reader.{turns};
+ghost use Rattle.ec_syntax.specs.Descent.Items.{begins_item, program};
 ghost use Rattle.ec_reader.specs.Answers.{Told};
 ghost use Rattle.ec_reader.specs.Another.{another_item};
 
@@ -29,7 +29,7 @@ impl<'a> Cursor<'a> {
     }
 
     /// Reads the items of a program.
-    #[tactic(auto, using(crate::proofs::Turns::going_more))]
+    #[tactic(auto, using(crate::proofs::Loops::Turns::going_more))]
     fn items(&mut self, alloc: Global, room: u32) -> Result<List<Item>, Fail<Fault>>
         ensures answer { Told (turns begins_item (another_item room) [] self.old) result self.new }
         ensures stays { length self.new.left ≤ length self.old.left }

@@ -1,21 +1,36 @@
 //! Simple statements. `room` is that for nesting below them.
-ghost use Rattle.std.specs.Prelude.{◌≡◌, ◌≤◌, ◌<◌, suc, [], length, codes, OnOk};
+ghost use Rattle.std.specs.Prelude.{◌≡◌, ◌≤◌, ◌<◌, suc, [], length, OnOk, IfOk};
 ghost use Rattle.ec_base.specs.declared.token.Mark.TheVariants as m;
 ghost use Rattle.ec_syntax.specs.declared.quantity.Quantity.TheVariants.{Arguments};
-ghost use Rattle.ec_syntax.specs.Reader.{inside, turns, kth, part};
-ghost use Rattle.ec_syntax.specs.Tokens.{is_mark};
-ghost use Rattle.ec_syntax.specs.ReadTokens.{begins_expr, is_string};
-ghost use Rattle.ec_syntax.specs.ReadExpressions.{expr, bracketed};
-ghost use Rattle.ec_syntax.specs.ReadStatements.{set, acted, pair, argument, printed, returned, simple};
-ghost use Rattle.ec_reader.specs.Answers.{Told};
-ghost use Rattle.ec_reader.specs.Inside.{too_deep};
-ghost use Rattle.ec_reader.specs.Sentences.{pair_below, values_below, empty_one, writing, adding, printing, given, giving, returning, acting, longer, limit_fault};
+ghost use Rattle.ec_syntax.specs.Grammar.Language.{span};
+ghost use Rattle.ec_syntax.specs.Descent.Reader.{inside, turns, kth};
+ghost use Rattle.ec_syntax.specs.Grammar.Statements.{statement};
+ghost use Rattle.ec_syntax.specs.Grammar.Tokens.{is_mark};
+ghost use Rattle.ec_syntax.specs.Descent.Tokens.{begins_expr, is_string};
+ghost use Rattle.ec_syntax.specs.Descent.Expressions.{expr};
+ghost use Rattle.ec_syntax.specs.Descent.Statements.{argument, pair, printed, returned, simple};
+ghost use Rattle.ec_reader.specs.Answers.{Told, ToldBy};
+ghost use Rattle.ec_reader.specs.Sentences.{limit_fault, update, update_of, print, print_of, empty_statement, write_statement, add_statement, print_statement, return_with_value, return_statement, assignment_from, action_from, action_statement, return_or_action};
 
 use crate::cursor::Cursor;
 use crate::nested::too_deep;
-use ec_base::{Fail, List, MAX_PRINT_ARGUMENTS, Mark};
+use ec_base::{Boxed, Fail, List, MAX_PRINT_ARGUMENTS, Mark, Text};
 use ec_syntax::{Expr, ExprKind, Fault, Quantity, Stmt, StmtKind};
-use std::alloc::Global;
+use std::alloc::{AllocError, Global};
+
+/// What stands between the brackets of a `writeto` or an `addto`.
+#[derive(Drop)]
+pub(crate) struct Update {
+    pub(crate) place: Boxed<Expr>,
+    pub(crate) value: Boxed<Expr>,
+}
+
+/// What stands between the brackets of a `printf`.
+#[derive(Drop)]
+pub(crate) struct Print {
+    pub(crate) format: Text,
+    pub(crate) values: List<Expr>,
+}
 
 /// Why reading stops at a token that passes this limit, if it may stand there else and there is room for it.
 pub(crate) fn limit_fault(may_stand: bool, room: u32, quantity: Quantity) -> Fault
@@ -31,113 +46,111 @@ pub(crate) fn limit_fault(may_stand: bool, room: u32, quantity: Quantity) -> Fau
 }
 
 impl<'a> Cursor<'a> {
+    /// A statement of this kind, from this place to the end of the last token that was read.
+    pub(crate) fn statement_from(
+        &self,
+        alloc: Global,
+        from: u32,
+        kind: StmtKind,
+    ) -> Result<Boxed<Stmt>, AllocError>
+        ensures { IfOk result (λ s. s ≡ statement kind (span from self.now.end)) }
+    {
+        let at = self.span_from(from);
+        Boxed::new(alloc, Stmt { kind, at })
+    }
+
     /// Reads an empty statement.
-    fn empty_one(&mut self) -> Result<Stmt, Fail<Fault>>
-        ensures answer { Told (empty_one self.old) result self.new }
+    fn empty_statement(&mut self, alloc: Global) -> Result<Boxed<Stmt>, Fail<Fault>>
+        ensures answer { Told (empty_statement self.old) result self.new }
         ensures takes { OnOk result (length self.new.left < length self.old.left) }
         ensures stays { length self.new.left ≤ length self.old.left }
     {
         let from = self.begin();
         self.mark(Mark::Semicolon)?;
-        Ok(Stmt {
-            kind: StmtKind::Empty,
-            at: self.span_from(from),
-        })
+        Ok(self.statement_from(alloc, from, StmtKind::Empty)?)
     }
 
-    /// Reads two expressions.
-    fn pair(&mut self, alloc: Global, room: u32) -> Result<(Expr, Expr), Fail<Fault>>
-        ensures answer { Told (pair (expr room) self.old) result self.new }
-        ensures takes { OnOk result (length self.new.left < length self.old.left) }
-        ensures stays { length self.new.left ≤ length self.old.left }
-    {
-        let first = self.expression(alloc, room)?;
-        self.mark(Mark::Comma)?;
-        let second = self.expression(alloc, room)?;
-        Ok((first, second))
-    }
-
-    /// Reads two expressions one deeper.
-    #[tactic(auto, using(crate::proofs::Rooms::inside_some, crate::proofs::Rooms::inside_none))]
-    fn inner_pair(&mut self, alloc: Global, room: u32) -> Result<(Expr, Expr), Fail<Fault>>
-        ensures answer { Told (inside room begins_expr (pair (expr room)) self.old) result self.new }
+    /// Reads the place and the value of a `writeto` or an `addto`, one deeper.
+    #[tactic(auto, using(crate::proofs::Parts::Rooms::inside_some, crate::proofs::Parts::Rooms::inside_none))]
+    fn place_and_value(&mut self, alloc: Global, room: u32) -> Result<Update, Fail<Fault>>
+        ensures answer { ToldBy update_of (inside room begins_expr (pair (expr room)) self.old) result self.new }
         ensures stays { length self.new.left ≤ length self.old.left }
     {
         if room == 0 {
             return Err(Fail::Refused(too_deep(self.begins_expr())));
         }
-        self.pair(alloc, room)
+        let place = self.expression(alloc, room)?;
+        self.mark(Mark::Comma)?;
+        let value = self.expression(alloc, room)?;
+        Ok(Update { place, value })
     }
 
-    /// Reads two expressions in brackets.
-    fn pair_below(&mut self, alloc: Global, room: u32) -> Result<(Expr, Expr), Fail<Fault>>
-        ensures answer { Told (pair_below room self.old) result self.new }
+    /// Reads this word, and behind it a place and a value in brackets.
+    fn update(&mut self, alloc: Global, room: u32, text: &[u8]) -> Result<Update, Fail<Fault>>
+        ensures answer { ToldBy update_of (update text.now room self.old) result self.new }
         ensures takes { OnOk result (length self.new.left < length self.old.left) }
         ensures stays { length self.new.left ≤ length self.old.left }
     {
+        self.word(text)?;
         self.sign(Mark::OpenParen)?;
-        let both = self.inner_pair(alloc, room)?;
+        let update = self.place_and_value(alloc, room)?;
         self.sign(Mark::CloseParen)?;
-        Ok(both)
+        Ok(update)
     }
 
     /// Reads a `writeto`.
-    fn writing(&mut self, alloc: Global, room: u32) -> Result<Stmt, Fail<Fault>>
-        ensures answer { Told (writing room self.old) result self.new }
+    fn write_statement(&mut self, alloc: Global, room: u32) -> Result<Boxed<Stmt>, Fail<Fault>>
+        ensures answer { Told (write_statement room self.old) result self.new }
         ensures takes { OnOk result (length self.new.left < length self.old.left) }
         ensures stays { length self.new.left ≤ length self.old.left }
     {
         let from = self.begin();
         self.begin_part();
-        self.word(b"writeto")?;
-        let (place, value) = self.pair_below(alloc, room)?;
+        let update = self.update(alloc, room, b"writeto")?;
         let at = self.span_from(from);
         self.mark(Mark::Semicolon)?;
-        Ok(Stmt {
-            kind: StmtKind::WriteTo(place, value),
-            at,
-        })
+        let Update { place, value } = update;
+        let kind = StmtKind::WriteTo(place, value);
+        Ok(Boxed::new(alloc, Stmt { kind, at })?)
     }
 
     /// Reads an `addto`.
-    fn adding(&mut self, alloc: Global, room: u32) -> Result<Stmt, Fail<Fault>>
-        ensures answer { Told (adding room self.old) result self.new }
+    fn add_statement(&mut self, alloc: Global, room: u32) -> Result<Boxed<Stmt>, Fail<Fault>>
+        ensures answer { Told (add_statement room self.old) result self.new }
         ensures takes { OnOk result (length self.new.left < length self.old.left) }
         ensures stays { length self.new.left ≤ length self.old.left }
     {
         let from = self.begin();
         self.begin_part();
-        self.word(b"addto")?;
-        let (place, value) = self.pair_below(alloc, room)?;
+        let update = self.update(alloc, room, b"addto")?;
         let at = self.span_from(from);
         self.mark(Mark::Semicolon)?;
-        Ok(Stmt {
-            kind: StmtKind::AddTo(place, value),
-            at,
-        })
+        let Update { place, value } = update;
+        let kind = StmtKind::AddTo(place, value);
+        Ok(Boxed::new(alloc, Stmt { kind, at })?)
     }
 
-    /// Reads an argument of a `printf`, behind so many.
-    #[tactic(auto, using(crate::proofs::Limits::kth_within, crate::proofs::Limits::kth_past))]
-    fn next_argument(
+    /// Reads a value that a `printf` writes, behind so many.
+    #[tactic(auto, using(crate::proofs::Parts::Limits::kth_within, crate::proofs::Parts::Limits::kth_past))]
+    fn next_value(
         &mut self,
         alloc: Global,
         room: u32,
         before: usize,
-    ) -> Result<Expr, Fail<Fault>>
+    ) -> Result<Boxed<Expr>, Fail<Fault>>
         ensures answer { Told (kth Arguments (suc before) begins_expr room (expr room) self.old) result self.new }
         ensures takes { OnOk result (length self.new.left < length self.old.left) }
         ensures stays { length self.new.left ≤ length self.old.left }
     {
-        if before >= MAX_PRINT_ARGUMENTS {
+        if before >= MAX_PRINT_ARGUMENTS as usize {
             let fault = limit_fault(self.begins_expr(), room, Quantity::Arguments);
             return Err(Fail::Refused(fault));
         }
         self.expression(alloc, room)
     }
 
-    /// Reads one more argument of a `printf` behind these.
-    fn argument(
+    /// Reads one more value behind these.
+    fn another_value(
         &mut self,
         alloc: Global,
         room: u32,
@@ -149,67 +162,71 @@ impl<'a> Cursor<'a> {
     {
         let mut all = before;
         self.mark(Mark::Comma)?;
-        let next = self.next_argument(alloc, room, all.len())?;
-        all.push(next)?;
+        let next = self.next_value(alloc, room, all.len())?;
+        all.push(next.into_inner())?;
         Ok(all)
     }
 
-    /// Reads the arguments of a `printf`.
-    #[tactic(auto, using(crate::proofs::Turns::going_more))]
-    fn values(&mut self, alloc: Global, room: u32) -> Result<List<Expr>, Fail<Fault>>
+    /// Reads the values that a `printf` writes, each behind a comma.
+    #[tactic(auto, using(crate::proofs::Loops::Turns::going_more))]
+    fn printed_values(&mut self, alloc: Global, room: u32) -> Result<List<Expr>, Fail<Fault>>
         ensures answer { Told (turns (is_mark m.Comma) (argument room) [] self.old) result self.new }
         ensures stays { length self.new.left ≤ length self.old.left }
     {
         let mut all = List::new(alloc);
         while self.is_mark(Mark::Comma) {
-            all = self.argument(alloc, room, all)?;
+            all = self.another_value(alloc, room, all)?;
         }
         Ok(all)
     }
 
-    /// Reads the string and the arguments of a `printf` one deeper.
-    #[tactic(auto, using(crate::proofs::Rooms::inside_some, crate::proofs::Rooms::inside_none))]
-    fn inner_values(&mut self, alloc: Global, room: u32) -> Result<StmtKind, Fail<Fault>>
-        ensures answer { Told (inside room is_string (printed room) self.old) result self.new }
+    /// Reads the format and the values of a `printf`, one deeper.
+    #[tactic(auto, using(crate::proofs::Parts::Rooms::inside_some, crate::proofs::Parts::Rooms::inside_none))]
+    fn format_and_values(&mut self, alloc: Global, room: u32) -> Result<Print, Fail<Fault>>
+        ensures answer { ToldBy print_of (inside room is_string (printed room) self.old) result self.new }
         ensures stays { length self.new.left ≤ length self.old.left }
     {
         if room == 0 {
             return Err(Fail::Refused(too_deep(self.is_string())));
         }
-        let text = self.string(alloc)?;
-        let values = self.values(alloc, room)?;
-        Ok(StmtKind::Print(text, values))
+        let format = self.string(alloc)?;
+        let values = self.printed_values(alloc, room)?;
+        Ok(Print { format, values })
     }
 
-    /// Reads the string and the arguments of a `printf` in brackets.
-    fn values_below(&mut self, alloc: Global, room: u32) -> Result<StmtKind, Fail<Fault>>
-        ensures answer { Told (values_below room self.old) result self.new }
+    /// Reads what stands in the brackets of a `printf`, with the brackets.
+    fn print(&mut self, alloc: Global, room: u32) -> Result<Print, Fail<Fault>>
+        ensures answer { ToldBy print_of (print room self.old) result self.new }
         ensures takes { OnOk result (length self.new.left < length self.old.left) }
         ensures stays { length self.new.left ≤ length self.old.left }
     {
         self.sign(Mark::OpenParen)?;
-        let kind = self.inner_values(alloc, room)?;
+        let print = self.format_and_values(alloc, room)?;
         self.sign(Mark::CloseParen)?;
-        Ok(kind)
+        Ok(print)
     }
 
     /// Reads a `printf`.
-    fn printing(&mut self, alloc: Global, room: u32) -> Result<Stmt, Fail<Fault>>
-        ensures answer { Told (printing room self.old) result self.new }
+    fn print_statement(&mut self, alloc: Global, room: u32) -> Result<Boxed<Stmt>, Fail<Fault>>
+        ensures answer { Told (print_statement room self.old) result self.new }
         ensures takes { OnOk result (length self.new.left < length self.old.left) }
         ensures stays { length self.new.left ≤ length self.old.left }
     {
         let from = self.begin();
         self.begin_part();
         self.word(b"printf")?;
-        let kind = self.values_below(alloc, room)?;
-        let at = self.span_from(from);
+        let Print { format, values } = self.print(alloc, room)?;
+        let statement = self.statement_from(alloc, from, StmtKind::Print(format, values))?;
         self.mark(Mark::Semicolon)?;
-        Ok(Stmt { kind, at })
+        Ok(statement)
     }
 
     /// Reads the value that a function gives, where one stands.
-    fn returned(&mut self, alloc: Global, room: u32) -> Result<Option<Expr>, Fail<Fault>>
+    fn returned_value(
+        &mut self,
+        alloc: Global,
+        room: u32,
+    ) -> Result<Option<Boxed<Expr>>, Fail<Fault>>
         ensures answer { Told (returned (expr room) self.old) result self.new }
         ensures stays { length self.new.left ≤ length self.old.left }
     {
@@ -221,113 +238,124 @@ impl<'a> Cursor<'a> {
     }
 
     /// Reads a `return` and its value, where so much room is.
-    fn given(&mut self, alloc: Global, room: u32) -> Result<Option<Expr>, Fail<Fault>>
-        ensures answer { Told (given room self.old) result self.new }
+    fn return_with_value(
+        &mut self,
+        alloc: Global,
+        room: u32,
+    ) -> Result<Option<Boxed<Expr>>, Fail<Fault>>
+        ensures answer { Told (return_with_value room self.old) result self.new }
         ensures stays { length self.new.left ≤ length self.old.left }
     {
         self.begin_part();
         self.word(b"return")?;
-        self.returned(alloc, room)
-    }
-
-    /// Reads a `return` without its `;`, where so much room is.
-    fn giving(&mut self, alloc: Global, room: u32) -> Result<StmtKind, Fail<Fault>>
-        ensures answer { Told (giving room self.old) result self.new }
-        ensures stays { length self.new.left ≤ length self.old.left }
-    {
-        let value = self.given(alloc, room)?;
-        Ok(StmtKind::Return(value))
+        self.returned_value(alloc, room)
     }
 
     /// Reads a `return`, where so much room is.
-    fn returning(&mut self, alloc: Global, room: u32) -> Result<Stmt, Fail<Fault>>
-        ensures answer { Told (returning room self.old) result self.new }
+    fn return_statement(&mut self, alloc: Global, room: u32) -> Result<Boxed<Stmt>, Fail<Fault>>
+        ensures answer { Told (return_statement room self.old) result self.new }
         ensures takes { OnOk result (length self.new.left < length self.old.left) }
         ensures stays { length self.new.left ≤ length self.old.left }
     {
         let from = self.begin();
-        let kind = self.giving(alloc, room)?;
+        let value = self.return_with_value(alloc, room)?;
         self.mark(Mark::Semicolon)?;
-        Ok(Stmt {
-            kind,
-            at: self.span_from(from),
-        })
+        Ok(self.statement_from(alloc, from, StmtKind::Return(value))?)
     }
 
-    /// Reads an assignment behind its left side, as a statement.
-    fn set(&mut self, alloc: Global, room: u32, left: Expr) -> Result<StmtKind, Fail<Fault>>
-        ensures answer { Told (set (expr room) left self.old) result self.new }
+    /// Reads an assignment from its `=`, `++` or `--` on, behind its left side, which begins at this place.
+    fn assignment_from(
+        &mut self,
+        alloc: Global,
+        room: u32,
+        from: u32,
+        left: Boxed<Expr>,
+    ) -> Result<Boxed<Stmt>, Fail<Fault>>
+        ensures answer { Told (assignment_from room from left self.old) result self.new }
+        ensures takes { OnOk result (length self.new.left < length self.old.left) }
         ensures stays { length self.new.left ≤ length self.old.left }
     {
-        let assign = self.assigned(alloc, room, left)?;
-        Ok(StmtKind::Set(assign))
+        let assign = self.assignment_to(alloc, room, left)?;
+        self.mark(Mark::Semicolon)?;
+        Ok(self.statement_from(alloc, from, StmtKind::Set(assign))?)
     }
 
-    /// Reads a call or an assignment, behind the call or the left side.
-    fn acted(&mut self, alloc: Global, room: u32, left: Expr) -> Result<StmtKind, Fail<Fault>>
-        ensures answer { Told (acted (expr room) left self.old) result self.new }
+    /// Reads the rest of a call that stands alone, or of an assignment, behind the call or the left side, which begins at this
+    /// place.
+    fn action_from(
+        &mut self,
+        alloc: Global,
+        room: u32,
+        from: u32,
+        left: Boxed<Expr>,
+    ) -> Result<Boxed<Stmt>, Fail<Fault>>
+        ensures answer { Told (action_from room from left self.old) result self.new }
+        ensures takes { OnOk result (length self.new.left < length self.old.left) }
         ensures stays { length self.new.left ≤ length self.old.left }
     {
-        let at = left.at;
-        match left.kind {
+        if !self.is_mark(Mark::Semicolon) {
+            return self.assignment_from(alloc, room, from, left);
+        }
+        let Expr { kind, at } = left.into_inner();
+        match kind {
             ExprKind::Call(call) => {
-                if self.is_mark(Mark::Semicolon) {
-                    return Ok(StmtKind::Eval(call));
-                }
-                let kind = ExprKind::Call(call);
-                self.set(alloc, room, Expr { kind, at })
-            }
-            kind => self.set(alloc, room, Expr { kind, at }),
+                self.mark(Mark::Semicolon)?;
+                let call = Boxed::new(alloc, call)?;
+                Ok(self.statement_from(alloc, from, StmtKind::Eval(call))?)
+            },
+            kind => {
+                let left = Boxed::new(alloc, Expr { kind, at })?;
+                self.assignment_from(alloc, room, from, left)
+            },
         }
     }
 
-    /// Reads a call or an assignment, where so much room is.
-    fn acting(&mut self, alloc: Global, room: u32) -> Result<Stmt, Fail<Fault>>
-        ensures answer { Told (acting room self.old) result self.new }
+    /// Reads a call that stands alone, or an assignment, where so much room is.
+    fn action_statement(&mut self, alloc: Global, room: u32) -> Result<Boxed<Stmt>, Fail<Fault>>
+        ensures answer { Told (action_statement room self.old) result self.new }
         ensures takes { OnOk result (length self.new.left < length self.old.left) }
         ensures stays { length self.new.left ≤ length self.old.left }
     {
         let from = self.begin();
         self.begin_part();
         let left = self.unary(alloc, room)?;
-        let kind = self.acted(alloc, room, left)?;
-        self.mark(Mark::Semicolon)?;
-        Ok(Stmt {
-            kind,
-            at: self.span_from(from),
-        })
+        self.action_from(alloc, room, from, left)
     }
 
     /// Reads a `return`, a call or an assignment, where so much room is.
-    fn longer(&mut self, alloc: Global, room: u32) -> Result<Stmt, Fail<Fault>>
-        ensures answer { Told (longer room self.old) result self.new }
+    fn return_or_action(&mut self, alloc: Global, room: u32) -> Result<Boxed<Stmt>, Fail<Fault>>
+        ensures answer { Told (return_or_action room self.old) result self.new }
         ensures takes { OnOk result (length self.new.left < length self.old.left) }
         ensures stays { length self.new.left ≤ length self.old.left }
     {
         if self.is_word(b"return") {
-            self.returning(alloc, room)
+            self.return_statement(alloc, room)
         } else {
-            self.acting(alloc, room)
+            self.action_statement(alloc, room)
         }
     }
 
     /// Reads a simple statement.
-    pub(crate) fn simple(&mut self, alloc: Global, room: u32) -> Result<Stmt, Fail<Fault>>
+    pub(crate) fn simple_statement(
+        &mut self,
+        alloc: Global,
+        room: u32,
+    ) -> Result<Boxed<Stmt>, Fail<Fault>>
         requires { room < 4294967295 }
         ensures answer { Told (simple room self.old) result self.new }
         ensures takes { OnOk result (length self.new.left < length self.old.left) }
         ensures stays { length self.new.left ≤ length self.old.left }
     {
         if self.is_mark(Mark::Semicolon) {
-            self.empty_one()
+            self.empty_statement(alloc)
         } else if self.is_word(b"writeto") {
-            self.writing(alloc, room)
+            self.write_statement(alloc, room)
         } else if self.is_word(b"addto") {
-            self.adding(alloc, room)
+            self.add_statement(alloc, room)
         } else if self.is_word(b"printf") {
-            self.printing(alloc, room)
+            self.print_statement(alloc, room)
         } else {
-            self.longer(alloc, room + 1)
+            self.return_or_action(alloc, room + 1)
         }
     }
 }

@@ -1,9 +1,9 @@
 //! Tokens that are read.
 ghost use Rattle.std.specs.Prelude.{◌≡◌, ◌≤◌, ◌<◌, length, OnOk};
-ghost use Rattle.ec_syntax.specs.Expressions.{of_mark, prefix_of, at_level};
-ghost use Rattle.ec_syntax.specs.ReadTokens.{mark, word, sign, operator, number, name, string, variable_name, parameter_name, function_name};
-ghost use Rattle.ec_syntax.specs.ReadExpressions.{factor};
-ghost use Rattle.ec_syntax.specs.ReadItems.{struct_brace, end};
+ghost use Rattle.ec_syntax.specs.Grammar.Expressions.{of_mark, prefix_of, at_level};
+ghost use Rattle.ec_syntax.specs.Descent.Tokens.{mark, word, sign, operator, number, name, string, variable_name, parameter_name, function_name};
+ghost use Rattle.ec_syntax.specs.Descent.Expressions.{factor};
+ghost use Rattle.ec_syntax.specs.Descent.Items.{struct_brace, end};
 ghost use Rattle.ec_reader.specs.Answers.{Told, ToldBy, FoundName};
 ghost use Rattle.ec_reader.specs.Operators.{makes, prefixes, of_factor};
 
@@ -19,6 +19,7 @@ impl<'a> Cursor<'a> {
     pub(crate) fn mark(&mut self, kind: Mark) -> Result<(), Fail<Fault>>
         ensures answer { Told (mark kind self.old) result self.new }
         ensures takes { OnOk result (length self.new.left < length self.old.left) }
+        ensures few { OnOk result (length self.old.left ≤ 1048577) }
         ensures stays { length self.new.left ≤ length self.old.left }
     {
         if self.is_mark(kind) {
@@ -47,6 +48,7 @@ impl<'a> Cursor<'a> {
     pub(crate) fn sign(&mut self, kind: Mark) -> Result<(), Fail<Fault>>
         ensures answer { Told (sign kind self.old) result self.new }
         ensures takes { OnOk result (length self.new.left < length self.old.left) }
+        ensures few { OnOk result (length self.old.left ≤ 1048577) }
         ensures stays { length self.new.left ≤ length self.old.left }
     {
         if !self.is_mark(kind) {
@@ -137,7 +139,7 @@ impl<'a> Cursor<'a> {
         let Some(text) = kinds::string_of(token) else {
             return Err(Fail::Refused(Fault::Expected));
         };
-        if text.len() > MAX_STRING {
+        if text.len() > MAX_STRING as usize {
             return Err(Fail::Refused(Fault::Passes(Quantity::StringBytes)));
         }
         let text = text.copy(alloc)?;
@@ -166,7 +168,7 @@ impl<'a> Cursor<'a> {
         ensures stays { length self.new.left ≤ length self.old.left }
     {
         let name = self.next_name(alloc)?;
-        if name.text.len() > MAX_NAME {
+        if name.text.len() > MAX_NAME as usize {
             return Err(Fail::Refused(Fault::Passes(Quantity::NameBytes)));
         }
         self.step();
@@ -181,7 +183,7 @@ impl<'a> Cursor<'a> {
     {
         let name = self.next_name(alloc)?;
         self.count_variable().map_err(Fail::Refused)?;
-        if name.text.len() > MAX_NAME {
+        if name.text.len() > MAX_NAME as usize {
             return Err(Fail::Refused(Fault::Passes(Quantity::NameBytes)));
         }
         self.step();
@@ -203,7 +205,7 @@ impl<'a> Cursor<'a> {
             return Err(Fail::Refused(Fault::Passes(Quantity::Parameters)));
         }
         self.count_variable().map_err(Fail::Refused)?;
-        if name.text.len() > MAX_NAME {
+        if name.text.len() > MAX_NAME as usize {
             return Err(Fail::Refused(Fault::Passes(Quantity::NameBytes)));
         }
         self.step();
@@ -218,7 +220,7 @@ impl<'a> Cursor<'a> {
     {
         let name = self.next_name(alloc)?;
         self.count_function().map_err(Fail::Refused)?;
-        if name.text.len() > MAX_NAME {
+        if name.text.len() > MAX_NAME as usize {
             return Err(Fail::Refused(Fault::Passes(Quantity::NameBytes)));
         }
         self.step();

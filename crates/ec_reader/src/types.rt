@@ -1,7 +1,7 @@
 //! Types and how variables are declared.
 ghost use Rattle.std.specs.Prelude.{◌≡◌, ◌≤◌, ◌<◌, length, OnOk};
 ghost use Rattle.ec_base.specs.declared.token.Mark.TheVariants as m;
-ghost use Rattle.ec_syntax.specs.ReadTokens.{struct_base, base, variable_base, mode, mark, sign, stars, type_with, pointer_with};
+ghost use Rattle.ec_syntax.specs.Descent.Tokens.{struct_base, base, variable_base, mode, mark, sign, stars, type_with, pointer_with};
 ghost use Rattle.ec_reader.specs.Answers.{Told};
 
 use crate::cursor::Cursor;
@@ -38,15 +38,14 @@ impl<'a> Cursor<'a> {
         }
     }
 
-    #[tactic(auto, using(crate::proofs::Turns::going_more))]
     /// Reads the stars of a type inside a part, where so many have been read.
+    #[tactic(auto, using(crate::proofs::Loops::Turns::going_more))]
     pub(crate) fn signed_stars(&mut self, before: u32) -> Result<u32, Fail<Fault>>
         requires { before ≤ 1 }
         ensures answer { Told (stars (sign m.Star) before self.old) result self.new }
         ensures stays { length self.new.left ≤ length self.old.left }
     {
         let mut stars = before;
-        let _left = self.left();
         while self.is_mark(Mark::Star) {
             self.sign(Mark::Star)?;
             stars += 1;
@@ -89,14 +88,13 @@ impl<'a> Cursor<'a> {
         }
     }
 
-    #[tactic(auto, using(crate::proofs::Turns::going_more))]
     /// Reads the stars of a declaration.
+    #[tactic(auto, using(crate::proofs::Loops::Turns::going_more))]
     pub(crate) fn stars(&mut self) -> Result<u32, Fail<Fault>>
         ensures answer { Told (stars (mark m.Star) 0 self.old) result self.new }
         ensures stays { length self.new.left ≤ length self.old.left }
     {
         let mut stars = 0;
-        let _left = self.left();
         while self.is_mark(Mark::Star) {
             self.mark(Mark::Star)?;
             stars += 1;

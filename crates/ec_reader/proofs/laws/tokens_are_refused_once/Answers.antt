@@ -1,4 +1,4 @@
-use Rattle.ec_reader.proofs.Once.{one_refusal, refused_is_no_program}
+use Rattle.ec_reader.proofs.Refusals.Once.{one_refusal, refused_is_no_program}
 use Rattle.ec_reader.proofs.laws.tokens_are_refused_once.Goals as goal
 
 pub returns : goal.returns

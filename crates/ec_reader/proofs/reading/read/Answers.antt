@@ -1,10 +1,9 @@
-use Rattle.std.proofs.Common.{◌≡◌, sym, ◌∙◌, ap, subst, ◌-◌, length, List, Err}
-use Rattle.ec_base.specs.declared.token.Token.{Token}
-use Rattle.ec_syntax.specs.ReadItems.{read}
-use Rattle.ec_syntax.specs.Reading.{Reads}
+use Rattle.std.proofs.Common.{sym, ◌∙◌, ap, subst, ◌-◌, length, Err}
+use Rattle.ec_syntax.specs.Descent.Items.{read}
+use Rattle.ec_syntax.specs.Grammar.Reading.{Reads}
 use Rattle.ec_reader.specs.Answers.{Told}
 use Rattle.ec_reader.specs.Refusals.{Refuses, refusal_at}
-use Rattle.ec_reader.proofs.Whole.{whole, refused}
+use Rattle.ec_reader.proofs.Refusals.Whole.{whole, refused}
 use Rattle.ec_reader.proofs.reading.read.Goals as goal
 
 pub returns-in-Ok : goal.returns-in-Ok

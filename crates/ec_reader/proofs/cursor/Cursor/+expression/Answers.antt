@@ -1,13 +1,13 @@
 use Rattle.std.proofs.Common.{sym, ◌∙◌, ◌-◌, arith}
 use Rattle.std.proofs.lemmas.Result.{err_from_is_err_and}
 use Rattle.ec_base.specs.declared.token.Mark.TheVariants as m
-use Rattle.ec_syntax.specs.Tokens.{is_mark}
-use Rattle.ec_syntax.specs.ReadExpressions.{unary, expr_of, levels, operation, is_at_level, is_selector, selected}
+use Rattle.ec_syntax.specs.Grammar.Tokens.{is_mark}
+use Rattle.ec_syntax.specs.Descent.Expressions.{unary, expr_of, levels, operation, is_at_level, is_selector, selected}
 use Rattle.ec_reader.specs.Inside.{another_argument}
-use Rattle.ec_reader.proofs.Turns.{going_over, going_more}
-use Rattle.ec_reader.proofs.Stopping.{told_stops}
-use Rattle.ec_reader.proofs.Rooms.{unary_prefixed, unary_address, unary_postfix, levels_first, told_as}
-use Rattle.ec_reader.proofs.Factors.{told_factor, told_size, told_operand}
+use Rattle.ec_reader.proofs.Loops.Turns.{going_over, going_more}
+use Rattle.ec_reader.proofs.Loops.Stopping.{told_stops}
+use Rattle.ec_reader.proofs.Parts.Rooms.{unary_prefixed, unary_address, unary_postfix, levels_first, told_as}
+use Rattle.ec_reader.proofs.Loops.Factors.{told_factor, told_size, told_operand}
 use Rattle.ec_reader.proofs.cursor.Cursor.+expression.Goals as goal
 
 pub unary-returns-then-is_prefix-clause-answer : goal.unary-returns-then-is_prefix-clause-answer

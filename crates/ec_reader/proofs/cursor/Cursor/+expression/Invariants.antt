@@ -1,7 +1,7 @@
 use Rattle.std.proofs.Common.{◌<◌, ◌+◌, ◌*◌, length}
 use Rattle.ec_base.specs.declared.token.Mark.TheVariants as m
-use Rattle.ec_syntax.specs.Tokens.{is_mark}
-use Rattle.ec_syntax.specs.ReadExpressions.{unary, expr_of, levels, operation, is_at_level, is_selector, selected, postfix, arguments, count}
+use Rattle.ec_syntax.specs.Grammar.Tokens.{is_mark}
+use Rattle.ec_syntax.specs.Descent.Expressions.{unary, expr_of, levels, operation, is_at_level, is_selector, selected, postfix, arguments, count}
 use Rattle.ec_reader.specs.Going.{Going}
 use Rattle.ec_reader.specs.Inside.{another_argument}
 use Rattle.ec_reader.specs.Counting.{Counting}
@@ -19,8 +19,8 @@ decreases-count l = 64 * l.room + 1
 abbrev pub decreases-amount : goal.decreases-amount
 decreases-amount l = 64 * l.room + 2
 
-abbrev pub decreases-inner_amount : goal.decreases-inner_amount
-decreases-inner_amount l = 64 * l.room + 3
+abbrev pub decreases-nested_amount : goal.decreases-nested_amount
+decreases-nested_amount l = 64 * l.room + 3
 
 abbrev pub decreases-malloc : goal.decreases-malloc
 decreases-malloc l = 64 * l.room + 4
@@ -31,20 +31,17 @@ decreases-operation l = 64 * l.room + 2 * l.level + 2
 abbrev pub decreases-another_argument : goal.decreases-another_argument
 decreases-another_argument l = 64 * l.room + 23
 
-abbrev pub decreases-inner : goal.decreases-inner
-decreases-inner l = 64 * l.room + 22
+abbrev pub decreases-nested_expression : goal.decreases-nested_expression
+decreases-nested_expression l = 64 * l.room + 22
 
 abbrev pub decreases-arguments : goal.decreases-arguments
 decreases-arguments l = 64 * l.room + 24
 
-abbrev pub decreases-inner_arguments : goal.decreases-inner_arguments
-decreases-inner_arguments l = 64 * l.room + 25
+abbrev pub decreases-nested_arguments : goal.decreases-nested_arguments
+decreases-nested_arguments l = 64 * l.room + 25
 
 abbrev pub decreases-value : goal.decreases-value
 decreases-value l = 64 * l.room + 23
-
-abbrev pub decreases-index : goal.decreases-index
-decreases-index l = 64 * l.room + 23
 
 abbrev pub decreases-indexed : goal.decreases-indexed
 decreases-indexed l = 64 * l.room + 24
@@ -55,8 +52,8 @@ decreases-selected l = 64 * l.room + 25
 abbrev pub decreases-behind_parenthesis : goal.decreases-behind_parenthesis
 decreases-behind_parenthesis l = 64 * l.room + 22
 
-abbrev pub decreases-inner_parenthesis : goal.decreases-inner_parenthesis
-decreases-inner_parenthesis l = 64 * l.room + 23
+abbrev pub decreases-nested_parenthesis : goal.decreases-nested_parenthesis
+decreases-nested_parenthesis l = 64 * l.room + 23
 
 abbrev pub decreases-parenthesised : goal.decreases-parenthesised
 decreases-parenthesised l = 64 * l.room + 24
@@ -64,11 +61,11 @@ decreases-parenthesised l = 64 * l.room + 24
 abbrev pub decreases-placement : goal.decreases-placement
 decreases-placement l = 64 * l.room + 24
 
-abbrev pub decreases-called : goal.decreases-called
-decreases-called l = 64 * l.room + 26
+abbrev pub decreases-call_from : goal.decreases-call_from
+decreases-call_from l = 64 * l.room + 26
 
-abbrev pub decreases-named : goal.decreases-named
-decreases-named l = 64 * l.room + 27
+abbrev pub decreases-name_or_call : goal.decreases-name_or_call
+decreases-name_or_call l = 64 * l.room + 27
 
 abbrev pub decreases-primary : goal.decreases-primary
 decreases-primary l = 64 * l.room + 28

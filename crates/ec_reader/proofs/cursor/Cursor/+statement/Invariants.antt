@@ -1,16 +1,16 @@
 use Rattle.std.proofs.Common.{◌≤◌, ◌+◌, ◌*◌, [], length}
-use Rattle.ec_syntax.specs.Reader.{turns}
-use Rattle.ec_syntax.specs.ReadTokens.{begins_stmt}
-use Rattle.ec_syntax.specs.ReadStatements.{sequence, branch, stmt}
+use Rattle.ec_syntax.specs.Descent.Reader.{turns}
+use Rattle.ec_syntax.specs.Descent.Tokens.{begins_stmt}
+use Rattle.ec_syntax.specs.Descent.Statements.{branch, stmt}
 use Rattle.ec_reader.specs.Going.{Going}
-use Rattle.ec_reader.specs.Sentences.{another_stmt}
+use Rattle.ec_reader.specs.Sentences.{another_statement}
 use Rattle.ec_reader.proofs.cursor.Cursor.+statement.Given as goal
 
 abbrev pub decreases-statement : goal.decreases-statement
 decreases-statement l = 16 * l.room
 
-abbrev pub decreases-another_stmt : goal.decreases-another_stmt
-decreases-another_stmt l = 16 * l.room + 1
+abbrev pub decreases-another_statement : goal.decreases-another_statement
+decreases-another_statement l = 16 * l.room + 1
 
 abbrev pub decreases-sequence : goal.decreases-sequence
 decreases-sequence l = 16 * l.room + 2
@@ -33,37 +33,34 @@ decreases-another_branch l = 16 * l.room + 2
 abbrev pub decreases-branches : goal.decreases-branches
 decreases-branches l = 16 * l.room + 3
 
-abbrev pub decreases-inner_branches : goal.decreases-inner_branches
-decreases-inner_branches l = 16 * l.room + 4
-
-abbrev pub decreases-parallel_one : goal.decreases-parallel_one
-decreases-parallel_one l = 16 * l.room + 5
+abbrev pub decreases-parallel_statement : goal.decreases-parallel_statement
+decreases-parallel_statement l = 16 * l.room + 5
 
 abbrev pub decreases-body : goal.decreases-body
 decreases-body l = 16 * l.room + 6
 
-abbrev pub decreases-otherwise : goal.decreases-otherwise
-decreases-otherwise l = 16 * l.room + 7
+abbrev pub decreases-else_branch : goal.decreases-else_branch
+decreases-else_branch l = 16 * l.room + 7
 
-abbrev pub decreases-choice_one : goal.decreases-choice_one
-decreases-choice_one l = 16 * l.room + 8
+abbrev pub decreases-if_statement : goal.decreases-if_statement
+decreases-if_statement l = 16 * l.room + 8
 
-abbrev pub decreases-loop_one : goal.decreases-loop_one
-decreases-loop_one l = 16 * l.room + 7
+abbrev pub decreases-while_statement : goal.decreases-while_statement
+decreases-while_statement l = 16 * l.room + 7
 
-abbrev pub decreases-for_one : goal.decreases-for_one
-decreases-for_one l = 16 * l.room + 7
+abbrev pub decreases-for_statement : goal.decreases-for_statement
+decreases-for_statement l = 16 * l.room + 7
 
-abbrev pub decreases-forall_one : goal.decreases-forall_one
-decreases-forall_one l = 16 * l.room + 7
+abbrev pub decreases-forall_statement : goal.decreases-forall_statement
+decreases-forall_statement l = 16 * l.room + 7
 
-abbrev pub decreases-bare : goal.decreases-bare
-decreases-bare l = 16 * l.room + 9
+abbrev pub decreases-bare_statement : goal.decreases-bare_statement
+decreases-bare_statement l = 16 * l.room + 9
 
 abbrev pub invariant-sequence-loop-alloc : goal.invariant-sequence-loop-alloc
 invariant-sequence-loop-alloc l = record {
   stays : length l.self.left ≤ length l.fn.self.left;
-  goes : Going begins_stmt (another_stmt l.fn.room) (turns begins_stmt (another_stmt l.fn.room) [] l.fn.self) l.all l.self;
+  goes : Going begins_stmt (another_statement l.fn.room) (turns begins_stmt (another_statement l.fn.room) [] l.fn.self) l.all l.self;
 }
 
 abbrev pub decreases-sequence-loop-alloc : goal.decreases-sequence-loop-alloc

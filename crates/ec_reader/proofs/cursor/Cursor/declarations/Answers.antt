@@ -1,10 +1,10 @@
 use Rattle.std.proofs.Common.{sym, ◌∙◌}
 use Rattle.std.proofs.lemmas.Result.{err_from_is_err_and}
-use Rattle.ec_syntax.specs.ReadTokens.{begins_declaration}
-use Rattle.ec_syntax.specs.ReadExpressions.{expr}
-use Rattle.ec_syntax.specs.ReadStatements.{declaration}
-use Rattle.ec_reader.proofs.Turns.{going_over}
-use Rattle.ec_reader.proofs.Stopping.{told_stops}
+use Rattle.ec_syntax.specs.Descent.Tokens.{begins_declaration}
+use Rattle.ec_syntax.specs.Descent.Expressions.{expr}
+use Rattle.ec_syntax.specs.Descent.Statements.{declaration}
+use Rattle.ec_reader.proofs.Loops.Turns.{going_over}
+use Rattle.ec_reader.proofs.Loops.Stopping.{told_stops}
 use Rattle.ec_reader.proofs.cursor.Cursor.declarations.Goals as goal
 
 pub returns-in_err-all-clause-answer : goal.returns-in_err-all-clause-answer

@@ -1,8 +1,8 @@
 use Rattle.std.proofs.Common.{◌≤◌, [], length}
-use Rattle.ec_syntax.specs.Reader.{turns}
-use Rattle.ec_syntax.specs.ReadTokens.{begins_declaration}
-use Rattle.ec_syntax.specs.ReadExpressions.{expr}
-use Rattle.ec_syntax.specs.ReadStatements.{declaration}
+use Rattle.ec_syntax.specs.Descent.Reader.{turns}
+use Rattle.ec_syntax.specs.Descent.Tokens.{begins_declaration}
+use Rattle.ec_syntax.specs.Descent.Expressions.{expr}
+use Rattle.ec_syntax.specs.Descent.Statements.{declaration}
 use Rattle.ec_reader.specs.Going.{Going}
 use Rattle.ec_reader.proofs.cursor.Cursor.declarations.Given as goal
 

@@ -1,9 +1,9 @@
 use Rattle.std.proofs.Common.{sym, ◌∙◌}
 use Rattle.std.proofs.lemmas.Result.{err_from_is_err_and}
-use Rattle.ec_syntax.specs.ReadItems.{begins_item}
+use Rattle.ec_syntax.specs.Descent.Items.{begins_item}
 use Rattle.ec_reader.specs.Another.{another_item}
-use Rattle.ec_reader.proofs.Turns.{going_over}
-use Rattle.ec_reader.proofs.Stopping.{told_stops}
+use Rattle.ec_reader.proofs.Loops.Turns.{going_over}
+use Rattle.ec_reader.proofs.Loops.Stopping.{told_stops}
 use Rattle.ec_reader.proofs.cursor.Cursor.items.Goals as goal
 
 pub returns-in_err-all-clause-answer : goal.returns-in_err-all-clause-answer

@@ -1,6 +1,6 @@
 use Rattle.std.proofs.Common.{◌≤◌, [], length}
-use Rattle.ec_syntax.specs.Reader.{turns}
-use Rattle.ec_syntax.specs.ReadItems.{begins_item}
+use Rattle.ec_syntax.specs.Descent.Reader.{turns}
+use Rattle.ec_syntax.specs.Descent.Items.{begins_item}
 use Rattle.ec_reader.specs.Another.{another_item}
 use Rattle.ec_reader.specs.Going.{Going}
 use Rattle.ec_reader.proofs.cursor.Cursor.items.Given as goal

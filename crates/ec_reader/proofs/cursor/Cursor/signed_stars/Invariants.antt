@@ -1,14 +1,14 @@
-use Rattle.std.proofs.Common.{◌≤◌, ◌+◌, length, suc}
+use Rattle.std.proofs.Common.{◌≤◌, ◌+◌, ◌-◌, length, suc}
 use Rattle.ec_base.specs.declared.token.Mark.TheVariants as m
-use Rattle.ec_syntax.specs.Tokens.{is_mark}
-use Rattle.ec_syntax.specs.Reader.{give, ◌>>◌}
-use Rattle.ec_syntax.specs.ReadTokens.{sign, stars}
+use Rattle.ec_syntax.specs.Grammar.Tokens.{is_mark}
+use Rattle.ec_syntax.specs.Descent.Reader.{give, ◌>>◌}
+use Rattle.ec_syntax.specs.Descent.Tokens.{sign, stars}
 use Rattle.ec_reader.specs.Going.{Going}
 use Rattle.ec_reader.proofs.cursor.Cursor.signed_stars.Given as goal
 
 abbrev pub invariant-loop-self : goal.invariant-loop-self
 invariant-loop-self l = record {
-  counted : l.stars + length l.self.left ≤ l.fn.before + length l.fn.self.left;
+  counted : l.stars ≤ l.fn.before + (1048577 - length l.self.left);
   stays : length l.self.left ≤ length l.fn.self.left;
   goes : Going (is_mark m.Star) (λ k. sign m.Star >> give (suc k)) (stars (sign m.Star) l.fn.before l.fn.self) l.stars l.self;
 }

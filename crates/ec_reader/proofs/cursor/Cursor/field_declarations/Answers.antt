@@ -1,0 +1,15 @@
+use Rattle.std.proofs.Common.{sym, ◌∙◌}
+use Rattle.std.proofs.lemmas.Result.{err_from_is_err_and}
+use Rattle.ec_syntax.specs.Descent.Tokens.{begins_base}
+use Rattle.ec_syntax.specs.Descent.Items.{fields}
+use Rattle.ec_reader.proofs.Loops.Turns.{going_over}
+use Rattle.ec_reader.proofs.Loops.Stopping.{told_stops}
+use Rattle.ec_reader.proofs.cursor.Cursor.field_declarations.Goals as goal
+
+pub returns-in_err-all-clause-answer : goal.returns-in_err-all-clause-answer
+returns-in_err-all-clause-answer c =
+    let p = err_from_is_err_and c.from_residual.result c.from_residual.ensures.1 in
+    rw (p.1, p.2) (told_stops begins_base fields c.in_err-all.field-0.0 c.field_declaration.new.self c.loop-alloc.invariant.goes (sym c.begins_base.ensures ∙ c.loop-alloc-test.true) c.in_err-all.ensures.answer)
+
+pub returns-clause-answer : goal.returns-clause-answer
+returns-clause-answer c = going_over begins_base fields c.loop-alloc.invariant.goes (sym c.begins_base.ensures ∙ c.loop-alloc-test.false)

@@ -1,0 +1,16 @@
+use Rattle.std.proofs.Common.{sym, ◌∙◌}
+use Rattle.std.proofs.lemmas.Result.{err_from_is_err_and}
+use Rattle.ec_base.specs.declared.token.Mark.TheVariants as m
+use Rattle.ec_syntax.specs.Grammar.Tokens.{is_mark}
+use Rattle.ec_syntax.specs.Descent.Statements.{argument}
+use Rattle.ec_reader.proofs.Loops.Turns.{going_over}
+use Rattle.ec_reader.proofs.Loops.Stopping.{told_stops}
+use Rattle.ec_reader.proofs.cursor.Cursor.printed_values.Goals as goal
+
+pub returns-in_err-all-clause-answer : goal.returns-in_err-all-clause-answer
+returns-in_err-all-clause-answer c =
+    let p = err_from_is_err_and c.from_residual.result c.from_residual.ensures.1 in
+    rw (p.1, p.2) (told_stops (is_mark m.Comma) (argument c.args.room) c.in_err-all.field-0.0 c.another_value.new.self c.loop-alloc.invariant.goes (sym c.is_mark.ensures ∙ c.loop-alloc-test.true) c.in_err-all.ensures.answer)
+
+pub returns-clause-answer : goal.returns-clause-answer
+returns-clause-answer c = going_over (is_mark m.Comma) (argument c.args.room) c.loop-alloc.invariant.goes (sym c.is_mark.ensures ∙ c.loop-alloc-test.false)
