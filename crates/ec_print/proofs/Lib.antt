@@ -1,36 +1,15 @@
-pub mod Again
-pub mod AgainAssign
-pub mod AgainBodies
-pub mod AgainCalls
-pub mod AgainDeclarations
-pub mod AgainExpressions
-pub mod AgainFolds
-pub mod AgainFunctions
-pub mod AgainGroups
-pub mod AgainLevels
-pub mod AgainLists
-pub mod AgainLoops
-pub mod AgainMarks
-pub mod AgainPrimary
-pub mod AgainPrograms
-pub mod AgainRules
-pub mod AgainSimple
-pub mod AgainStatements
-pub mod AgainSteps
-pub mod AgainStmtTrees
-pub mod AgainStructs
-pub mod AgainTokens
-pub mod AgainTrees
-pub mod AgainTypes
+-- what the functions rest on: phrases one behind the other
 pub mod Appending
 pub mod Laying
+-- what the laws rest on: laid-out tokens are cut into themselves,
 pub mod Relexed
-pub mod RelexedMarks
-pub mod RelexedStrings
-pub mod RelexedWords
-pub mod RoundTrip
+-- what was read is written with tokens that a text can give,
 pub mod Spellable
-pub mod SpellableExpressions
-pub mod SpellablePrograms
-pub mod SpellableStatements
-pub mod SpellableTokens
+-- these tokens are read as the same program,
+pub mod Again
+-- nothing written of a program tells places,
+pub mod Unplaced
+-- plain tokens are those of what they are read as,
+pub mod Plain
+-- and all of it together
+pub mod RoundTrip

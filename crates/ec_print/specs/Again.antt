@@ -3,7 +3,7 @@ use Rattle.std.specs.Prelude.{◌≡◌, List, [], ◌∷◌, ◌++◌, map}
 use Rattle.ec_base.specs.declared.token.Token.{Token}
 use Rattle.ec_base.specs.declared.token.TokenKind.TheVariants as t
 use Rattle.ec_syntax.specs.declared.item.Program.{Program}
-use Rattle.ec_syntax.specs.Reading.{Reads}
+use Rattle.ec_syntax.specs.Grammar.Reading.{Reads}
 use Rattle.ec_print.specs.Sentence.{sentence}
 use Rattle.ec_print.specs.Unplaced.{unplaced}
 

@@ -1,5 +1,5 @@
--- How tokens stand in lines: a line ends after each `{`, `}`, `{^` and `^}` and after each `;` outside parentheses, and one
--- space stands after each other token.
+-- How tokens stand in lines: a line ends after each `{`, `}`, `{^` and `^}` and after each `;` outside parentheses, and
+-- one space stands after each other token.
 use Rattle.std.specs.Prelude.{ℕ, ◌+◌, ◌-◌, ◌==◌, Bool, true, false, if◌then◌else◌, List, [], ◌∷◌, ◌++◌, codes}
 use Rattle.std.specs.Fmt.{signed_decimal}
 use Rattle.ec_base.specs.declared.token.Mark.{Mark}

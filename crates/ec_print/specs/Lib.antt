@@ -6,6 +6,7 @@ pub mod Canonical
 -- what the laws say
 pub mod Relexed
 pub mod Unplaced
+pub mod Plain
 pub mod Again
 pub mod RoundTrip
 -- what the functions inside the crate promise each other

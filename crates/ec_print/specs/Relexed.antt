@@ -12,8 +12,8 @@ use Rattle.ec_print.specs.Layout.{laid}
 abbrev pub NoEnd : List TokenKind → Type 0
 NoEnd ks = list_all (λ k. not (is_end k)) ks ≡ true
 
--- The text of tokens that a source text can give is cut into these tokens and the end, wherever they stand in it, and nothing
--- in it is refused.
+-- The text of tokens that a source text can give is cut into these tokens and the end, wherever they stand in it, and
+-- nothing in it is refused.
 abbrev pub PrintedIsCut : Type 0
 PrintedIsCut =
     (ks : List TokenKind) → AllLexical ks → NoEnd ks

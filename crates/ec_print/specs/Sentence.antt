@@ -214,7 +214,8 @@ abbrev pub of_statement_kind : StmtKind-F Phrase Phrase Phrase → Phrase
 of_statement_kind StmtKind-F.Empty = mark m.Semicolon
 of_statement_kind (StmtKind-F.Body b) = b
 of_statement_kind (StmtKind-F.Par ss) = mark m.OpenPar then joined ss then mark m.ClosePar
-of_statement_kind (StmtKind-F.If c a b) = word (codes "if") then bracketed (expression c) then a then optional otherwise b
+of_statement_kind (StmtKind-F.If c a b) =
+    word (codes "if") then bracketed (expression c) then a then optional otherwise b
 of_statement_kind (StmtKind-F.While c s) = word (codes "while") then bracketed (expression c) then s
 of_statement_kind (StmtKind-F.For i c e s) = word (codes "for") then for_header i c e then s
 of_statement_kind (StmtKind-F.Forall i c e s) = word (codes "forall") then forall_header i c e then s
@@ -249,7 +250,8 @@ field f = type f.ty then word f.name.text then optional length_of f.array then m
 
 abbrev pub structure : StructDef → Phrase
 structure s =
-    word (codes "struct") then word s.name.text then mark m.OpenBrace then joined (map field s.fields) then mark m.CloseBrace then mark m.Semicolon
+    word (codes "struct") then word s.name.text
+    then mark m.OpenBrace then joined (map field s.fields) then mark m.CloseBrace then mark m.Semicolon
 
 -- base "*"* id "(" params ")" block
 abbrev pub function : Func → Phrase

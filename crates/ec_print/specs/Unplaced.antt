@@ -80,8 +80,10 @@ declaration d = record d { name = name d.name; ty = type d.ty; init = optional e
 abbrev pub of_statement_kind : StmtKind-F StmtKind Body Stmt → StmtKind
 of_statement_kind (StmtKind-F.If c a b) = roll-StmtKind (StmtKind-F.If (expression c) a b)
 of_statement_kind (StmtKind-F.While c s) = roll-StmtKind (StmtKind-F.While (expression c) s)
-of_statement_kind (StmtKind-F.For i c e s) = roll-StmtKind (StmtKind-F.For (optional assignment i) (optional expression c) (optional assignment e) s)
-of_statement_kind (StmtKind-F.Forall i c e s) = roll-StmtKind (StmtKind-F.Forall (assignment i) (expression c) (assignment e) s)
+of_statement_kind (StmtKind-F.For i c e s) =
+    roll-StmtKind (StmtKind-F.For (optional assignment i) (optional expression c) (optional assignment e) s)
+of_statement_kind (StmtKind-F.Forall i c e s) =
+    roll-StmtKind (StmtKind-F.Forall (assignment i) (expression c) (assignment e) s)
 of_statement_kind (StmtKind-F.Set a) = roll-StmtKind (StmtKind-F.Set (assignment a))
 of_statement_kind (StmtKind-F.Eval c) = roll-StmtKind (StmtKind-F.Eval (call c))
 of_statement_kind (StmtKind-F.WriteTo a b) = roll-StmtKind (StmtKind-F.WriteTo (expression a) (expression b))
@@ -114,7 +116,8 @@ abbrev pub structure : StructDef → StructDef
 structure s = record { name = name s.name; fields = map field s.fields }
 
 abbrev pub function : Func → Func
-function f = record { name = name f.name; result = type f.result; params = map declaration f.params; body = body f.body }
+function f =
+    record { name = name f.name; result = type f.result; params = map declaration f.params; body = body f.body }
 
 abbrev pub item : Item → Item
 item (StructItem s) = StructItem (structure s)

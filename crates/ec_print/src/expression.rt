@@ -1,10 +1,12 @@
 //! Types and expressions.
 ghost use Rattle.std.specs.Prelude.{◌≡◌, OnOk, map};
+ghost use Rattle.ec_base.specs.declared.token.Mark.TheVariants as m;
+ghost use Rattle.ec_print.specs.Phrase.{◌then◌};
 ghost use Rattle.ec_print.specs.Sentence as spec;
 ghost use Rattle.ec_print.specs.Writing.{malloc_head, malloc_tail, with};
 
 use crate::printer::Printer;
-use ec_base::{BinOp, Mark, UnOp};
+use ec_base::{BinOp, Boxed, Mark, UnOp};
 use ec_syntax::{Base, Call, Expr, ExprKind, Placement, Ty};
 use std::alloc::AllocError;
 
@@ -109,6 +111,22 @@ impl Printer {
         self.mark(Mark::CloseParen)
     }
 
+    /// A `malloc` from behind its count on.
+    fn counted_tail(&mut self, element: &Ty) -> Result<(), AllocError>
+        ensures { OnOk result (self.new ≡ with (spec.mark m.Star then malloc_tail element.now) self.old) }
+    {
+        self.mark(Mark::Star)?;
+        self.malloc_tail(element)
+    }
+
+    /// A mark and a word.
+    fn named(&mut self, mark: Mark, word: &[u8]) -> Result<(), AllocError>
+        ensures { OnOk result (self.new ≡ with (spec.mark mark then spec.word word.now) self.old) }
+    {
+        self.mark(mark)?;
+        self.word(word)
+    }
+
     #[cycle(expression)]
     pub(crate) fn expression(&mut self, e: &Expr) -> Result<(), AllocError>
         ensures { OnOk result (self.new ≡ with (spec.expression e.now) self.old) }
@@ -117,49 +135,33 @@ impl Printer {
             ExprKind::Number(n) => self.number(*n),
             ExprKind::Null => self.word(b"NULL"),
             ExprKind::Var(x) => self.word(x.as_slice()),
-            ExprKind::Paren(inside) => {
-                self.mark(Mark::OpenParen)?;
-                self.expression(inside.get())?;
-                self.mark(Mark::CloseParen)
-            }
-            ExprKind::Unary(operator, operand) => {
-                self.mark(prefix(*operator))?;
-                self.expression(operand.get())
-            }
+            ExprKind::Paren(inside) => self.bracketed(inside.get()),
+            ExprKind::Unary(operator, operand) => self.prefixed(prefix(*operator), operand.get()),
             ExprKind::Binary(operator, a, b) => {
                 self.expression(a.get())?;
-                self.mark(infix_mark(*operator))?;
-                self.expression(b.get())
+                self.prefixed(infix_mark(*operator), b.get())
             }
             ExprKind::And(a, b) => {
                 self.expression(a.get())?;
-                self.mark(Mark::AndAnd)?;
-                self.expression(b.get())
+                self.prefixed(Mark::AndAnd, b.get())
             }
             ExprKind::Or(a, b) => {
                 self.expression(a.get())?;
-                self.mark(Mark::OrOr)?;
-                self.expression(b.get())
+                self.prefixed(Mark::OrOr, b.get())
             }
-            ExprKind::Deref(pointer) => {
-                self.mark(Mark::Star)?;
-                self.expression(pointer.get())
-            }
+            ExprKind::Deref(pointer) => self.prefixed(Mark::Star, pointer.get()),
             ExprKind::Index(pointer, index) => {
                 self.expression(pointer.get())?;
-                self.mark(Mark::OpenBracket)?;
-                self.expression(index.get())?;
+                self.prefixed(Mark::OpenBracket, index.get())?;
                 self.mark(Mark::CloseBracket)
             }
             ExprKind::Arrow(pointer, field) => {
                 self.expression(pointer.get())?;
-                self.mark(Mark::Arrow)?;
-                self.word(field.as_slice())
+                self.named(Mark::Arrow, field.as_slice())
             }
             ExprKind::Dot(access, field) => {
                 self.expression(access.get())?;
-                self.mark(Mark::Dot)?;
-                self.word(field.as_slice())
+                self.named(Mark::Dot, field.as_slice())
             }
             ExprKind::Call(call) => self.call(call),
             ExprKind::New(cast, count, element) => {
@@ -168,22 +170,34 @@ impl Printer {
                     None => self.malloc_tail(element),
                     Some(count) => {
                         self.expression(count.get())?;
-                        self.mark(Mark::Star)?;
-                        self.malloc_tail(element)
+                        self.counted_tail(element)
                     }
                 }
             }
             ExprKind::ValueOf(shared) => {
                 self.word(b"valueof")?;
-                self.mark(Mark::OpenParen)?;
-                self.expression(shared.get())?;
-                self.mark(Mark::CloseParen)
+                self.bracketed(shared.get())
             }
-            ExprKind::Address(x) => {
-                self.mark(Mark::And)?;
-                self.word(x.as_slice())
-            }
+            ExprKind::Address(x) => self.named(Mark::And, x.as_slice()),
         }
+    }
+
+    /// A mark and an expression.
+    #[cycle(expression)]
+    fn prefixed(&mut self, mark: Mark, e: &Expr) -> Result<(), AllocError>
+        ensures { OnOk result (self.new ≡ with (spec.mark mark then spec.expression e.now) self.old) }
+    {
+        self.mark(mark)?;
+        self.expression(e)
+    }
+
+    /// An expression in parentheses.
+    #[cycle(expression)]
+    pub(crate) fn bracketed(&mut self, e: &Expr) -> Result<(), AllocError>
+        ensures { OnOk result (self.new ≡ with (spec.bracketed (spec.expression e.now)) self.old) }
+    {
+        self.prefixed(Mark::OpenParen, e)?;
+        self.mark(Mark::CloseParen)
     }
 
     #[cycle(expression)]
@@ -205,16 +219,12 @@ impl Printer {
             Placement::Here => Ok(()),
             Placement::OwnerOf(pointer) => {
                 self.at_owner()?;
-                self.mark(Mark::OpenParen)?;
-                self.expression(pointer.get())?;
-                self.mark(Mark::CloseParen)
+                self.bracketed(pointer.get())
             }
             Placement::Home => self.at(b"HOME"),
             Placement::Node(number) => {
                 self.at(b"NODE")?;
-                self.mark(Mark::OpenParen)?;
-                self.expression(number.get())?;
-                self.mark(Mark::CloseParen)
+                self.bracketed(number.get())
             }
             Placement::Anywhere => self.at(b"ANYWHERE"),
         }
@@ -224,8 +234,7 @@ impl Printer {
     fn at(&mut self, word: &[u8]) -> Result<(), AllocError>
         ensures { OnOk result (self.new ≡ with (spec.at word.now) self.old) }
     {
-        self.mark(Mark::At)?;
-        self.word(word)
+        self.named(Mark::At, word)
     }
 
     /// `@` and `OWNER_OF`.
@@ -249,33 +258,22 @@ impl Printer {
         Ok(())
     }
 
-    /// An expression in parentheses.
-    pub(crate) fn bracketed(&mut self, e: &Expr) -> Result<(), AllocError>
-        ensures { OnOk result (self.new ≡ with (spec.bracketed (spec.expression e.now)) self.old) }
-    {
-        self.mark(Mark::OpenParen)?;
-        self.expression(e)?;
-        self.mark(Mark::CloseParen)
-    }
-
     /// Two expressions in parentheses.
     pub(crate) fn pair(&mut self, a: &Expr, b: &Expr) -> Result<(), AllocError>
         ensures { OnOk result (self.new ≡ with (spec.pair a.now b.now) self.old) }
     {
-        self.mark(Mark::OpenParen)?;
-        self.expression(a)?;
-        self.mark(Mark::Comma)?;
-        self.expression(b)?;
+        self.prefixed(Mark::OpenParen, a)?;
+        self.prefixed(Mark::Comma, b)?;
         self.mark(Mark::CloseParen)
     }
 
     /// An expression that may be missing.
-    pub(crate) fn optional(&mut self, e: &Option<Expr>) -> Result<(), AllocError>
+    pub(crate) fn optional(&mut self, e: &Option<Boxed<Expr>>) -> Result<(), AllocError>
         ensures { OnOk result (self.new ≡ with (spec.optional spec.expression e.now) self.old) }
     {
         match e {
             None => Ok(()),
-            Some(e) => self.expression(e),
+            Some(e) => self.expression(e.get()),
         }
     }
 
@@ -284,8 +282,7 @@ impl Printer {
         ensures { OnOk result (self.new ≡ with (spec.further (map spec.expression all.now)) self.old) }
     {
         for e in all {
-            self.mark(Mark::Comma)?;
-            self.expression(e)?;
+            self.prefixed(Mark::Comma, e)?;
         }
         Ok(())
     }

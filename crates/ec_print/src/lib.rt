@@ -1,6 +1,7 @@
-//! The canonical text of a program. `specs/Sentence.antt` says which tokens it has, and `specs/Layout.antt` how they stand
-//! in lines. `specs/RoundTrip.antt` says that of the text of a program that was read the same program is read: the text is
-//! cut into the tokens of the sentence (`specs/Relexed.antt`), and these are read as that program (`specs/Again.antt`).
+//! The canonical text of a program. `specs/Sentence.antt` says which tokens it has, and `specs/Layout.antt` how they stand in
+//! lines. `specs/RoundTrip.antt` says that of the text of a program that was read the same program is read, and the same
+//! text is printed: the text is cut into the tokens of the sentence (`specs/Relexed.antt`), and these are read as that
+//! program (`specs/Again.antt`). `specs/Plain.antt` says which tokens are printed as they were.
 #![tactic(auto)]
 
 ghost use Rattle.std.specs.Prelude.{◌≡◌, IfOk};
@@ -15,7 +16,10 @@ mod statement;
 use crate::printer::Printer;
 use ec_base::{NoMemory, Text};
 use ec_syntax::Program;
-pub use laws::{printed_text_is_cut, printed_text_is_read_again, sentence_reads_again};
+pub use laws::{
+    plain_tokens_are_the_sentence, printed_text_is_cut, printed_text_is_printed_again,
+    printed_text_is_read_again, sentence_reads_again,
+};
 use std::alloc::Global;
 
 /// The canonical text of a program: the tokens of its sentence, without `++`, `--`, `(void)` and lists of declarators or
@@ -29,6 +33,3 @@ pub fn print(alloc: Global, p: &Program) -> Result<Text, NoMemory>
     printer.program(p)?;
     Ok(printer.into_text())
 }
-
-#[cfg(test)]
-mod tests;

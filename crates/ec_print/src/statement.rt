@@ -1,11 +1,13 @@
 //! Declarations and statements.
 ghost use Rattle.std.specs.Prelude.{◌≡◌, OnOk, map};
+ghost use Rattle.ec_base.specs.declared.token.Mark.TheVariants as m;
+ghost use Rattle.ec_print.specs.Phrase.{◌then◌};
 ghost use Rattle.ec_print.specs.Sentence as spec;
-ghost use Rattle.ec_print.specs.Writing.{with};
+ghost use Rattle.ec_print.specs.Writing.{condition, parallel, printing, returning, updating, with};
 
 use crate::printer::Printer;
-use ec_base::Mark;
-use ec_syntax::{Assign, Body, Decl, Expr, Mode, Stmt, StmtKind};
+use ec_base::{Boxed, Mark};
+use ec_syntax::{Assign, Body, Call, Decl, Expr, Mode, Stmt, StmtKind};
 use std::alloc::AllocError;
 
 impl Printer {
@@ -28,14 +30,14 @@ impl Printer {
         self.word(d.name.text.as_slice())
     }
 
-    fn initialiser(&mut self, e: &Option<Expr>) -> Result<(), AllocError>
+    fn initialiser(&mut self, e: &Option<Boxed<Expr>>) -> Result<(), AllocError>
         ensures { OnOk result (self.new ≡ with (spec.optional spec.initialiser e.now) self.old) }
     {
         match e {
             None => Ok(()),
             Some(e) => {
                 self.mark(Mark::Assign)?;
-                self.expression(e)
+                self.expression(e.get())
             }
         }
     }
@@ -65,21 +67,21 @@ impl Printer {
         self.expression(&a.right)
     }
 
-    fn optional_assignment(&mut self, a: &Option<Assign>) -> Result<(), AllocError>
+    fn optional_assignment(&mut self, a: &Option<Boxed<Assign>>) -> Result<(), AllocError>
         ensures { OnOk result (self.new ≡ with (spec.optional spec.assignment a.now) self.old) }
     {
         match a {
             None => Ok(()),
-            Some(a) => self.assignment(a),
+            Some(a) => self.assignment(a.get()),
         }
     }
 
     /// The header of a `for`, whose parts may be missing.
     fn for_header(
         &mut self,
-        first: &Option<Assign>,
-        test: &Option<Expr>,
-        last: &Option<Assign>,
+        first: &Option<Boxed<Assign>>,
+        test: &Option<Boxed<Expr>>,
+        last: &Option<Boxed<Assign>>,
     ) -> Result<(), AllocError>
         ensures { OnOk result (self.new ≡ with (spec.for_header first.now test.now last.now) self.old) }
     {
@@ -110,14 +112,54 @@ impl Printer {
         self.mark(Mark::CloseParen)
     }
 
-    /// What stands in the parentheses of a `printf`.
-    fn printed(&mut self, string: &[u8], values: &[Expr]) -> Result<(), AllocError>
-        ensures { OnOk result (self.new ≡ with (spec.printed string.now values.now) self.old) }
+    /// A word, and a condition in parentheses.
+    fn condition(&mut self, word: &[u8], test: &Expr) -> Result<(), AllocError>
+        ensures { OnOk result (self.new ≡ with (condition word.now test.now) self.old) }
     {
+        self.word(word)?;
+        self.bracketed(test)
+    }
+
+    fn set(&mut self, a: &Assign) -> Result<(), AllocError>
+        ensures { OnOk result (self.new ≡ with (spec.assignment a.now then spec.mark m.Semicolon) self.old) }
+    {
+        self.assignment(a)?;
+        self.mark(Mark::Semicolon)
+    }
+
+    fn eval(&mut self, call: &Call) -> Result<(), AllocError>
+        ensures { OnOk result (self.new ≡ with (spec.call call.now then spec.mark m.Semicolon) self.old) }
+    {
+        self.call(call)?;
+        self.mark(Mark::Semicolon)
+    }
+
+    /// A write to a shared variable, or an addition to one, by its word.
+    fn update(&mut self, word: &[u8], shared: &Expr, value: &Expr) -> Result<(), AllocError>
+        ensures { OnOk result (self.new ≡ with (updating word.now shared.now value.now) self.old) }
+    {
+        self.word(word)?;
+        self.pair(shared, value)?;
+        self.mark(Mark::Semicolon)
+    }
+
+    fn printf(&mut self, string: &[u8], values: &[Expr]) -> Result<(), AllocError>
+        ensures { OnOk result (self.new ≡ with (printing string.now values.now) self.old) }
+    {
+        self.word(b"printf")?;
         self.mark(Mark::OpenParen)?;
         self.string(string)?;
         self.further_arguments(values)?;
-        self.mark(Mark::CloseParen)
+        self.mark(Mark::CloseParen)?;
+        self.mark(Mark::Semicolon)
+    }
+
+    fn return_statement(&mut self, value: &Option<Boxed<Expr>>) -> Result<(), AllocError>
+        ensures { OnOk result (self.new ≡ with (returning value.now) self.old) }
+    {
+        self.word(b"return")?;
+        self.optional(value)?;
+        self.mark(Mark::Semicolon)
     }
 
     #[cycle(statement)]
@@ -127,26 +169,17 @@ impl Printer {
         match &s.kind {
             StmtKind::Empty => self.mark(Mark::Semicolon),
             StmtKind::Body(body) => self.body(body),
-            StmtKind::Par(branches) => {
-                self.mark(Mark::OpenPar)?;
-                self.statements(branches.as_slice())?;
-                self.mark(Mark::ClosePar)
-            }
-            StmtKind::If(test, holds, otherwise) => {
-                self.word(b"if")?;
-                self.bracketed(test)?;
+            StmtKind::Par(branches) => self.parallel(branches.as_slice()),
+            StmtKind::If(test, holds, fails) => {
+                self.condition(b"if", test.get())?;
                 self.statement(holds.get())?;
-                match otherwise {
+                match fails {
                     None => Ok(()),
-                    Some(fails) => {
-                        self.word(b"else")?;
-                        self.statement(fails.get())
-                    }
+                    Some(fails) => self.otherwise(fails.get()),
                 }
             }
             StmtKind::While(test, body) => {
-                self.word(b"while")?;
-                self.bracketed(test)?;
+                self.condition(b"while", test.get())?;
                 self.statement(body.get())
             }
             StmtKind::For(first, test, last, body) => {
@@ -156,38 +189,35 @@ impl Printer {
             }
             StmtKind::Forall(first, test, last, body) => {
                 self.word(b"forall")?;
-                self.forall_header(first, test, last)?;
+                self.forall_header(first.get(), test.get(), last.get())?;
                 self.statement(body.get())
             }
-            StmtKind::Set(a) => {
-                self.assignment(a)?;
-                self.mark(Mark::Semicolon)
-            }
-            StmtKind::Eval(call) => {
-                self.call(call)?;
-                self.mark(Mark::Semicolon)
-            }
-            StmtKind::WriteTo(shared, value) => {
-                self.word(b"writeto")?;
-                self.pair(shared, value)?;
-                self.mark(Mark::Semicolon)
-            }
-            StmtKind::AddTo(shared, value) => {
-                self.word(b"addto")?;
-                self.pair(shared, value)?;
-                self.mark(Mark::Semicolon)
-            }
-            StmtKind::Print(string, values) => {
-                self.word(b"printf")?;
-                self.printed(string.as_slice(), values.as_slice())?;
-                self.mark(Mark::Semicolon)
-            }
-            StmtKind::Return(value) => {
-                self.word(b"return")?;
-                self.optional(value)?;
-                self.mark(Mark::Semicolon)
-            }
+            StmtKind::Set(a) => self.set(a.get()),
+            StmtKind::Eval(call) => self.eval(call.get()),
+            StmtKind::WriteTo(shared, value) => self.update(b"writeto", shared.get(), value.get()),
+            StmtKind::AddTo(shared, value) => self.update(b"addto", shared.get(), value.get()),
+            StmtKind::Print(string, values) => self.printf(string.as_slice(), values.as_slice()),
+            StmtKind::Return(value) => self.return_statement(value),
         }
+    }
+
+    /// `else` and a statement.
+    #[cycle(statement)]
+    fn otherwise(&mut self, s: &Stmt) -> Result<(), AllocError>
+        ensures { OnOk result (self.new ≡ with (spec.otherwise (spec.statement s.now)) self.old) }
+    {
+        self.word(b"else")?;
+        self.statement(s)
+    }
+
+    /// A parallel sequence.
+    #[cycle(statement)]
+    fn parallel(&mut self, branches: &[Stmt]) -> Result<(), AllocError>
+        ensures { OnOk result (self.new ≡ with (parallel (map spec.statement branches.now)) self.old) }
+    {
+        self.mark(Mark::OpenPar)?;
+        self.statements(branches)?;
+        self.mark(Mark::ClosePar)
     }
 
     #[cycle(statement)]

@@ -1,4 +1,4 @@
-use Rattle.ec_print.proofs.AgainPrograms.{sentence_reads_again}
+use Rattle.ec_print.proofs.Again.Programs.{sentence_reads_again}
 use Rattle.ec_print.proofs.laws.sentence_reads_again.Goals as goal
 
 pub returns : goal.returns
