@@ -1,7 +1,9 @@
 -- A step more keeps what the loop knows.
 use Rattle.std.proofs.Common.{◌≡◌, ◌≤◌, ◌<◌, ◌+◌, ℕ, Bool, true, false, not, cond, List, [], ◌∷◌, ◌++◌, length, ap, sym, ◌∙◌, subst, Option, Some, None, OnOk, Result, Ok, Err, arith, length-append}
+use Rattle.std.proofs.lemmas.Option.{same_Some}
 use Rattle.std.proofs.lemmas.List.{map-append}
 use Rattle.std.proofs.lemmas.List.Sums.{sum_by-append}
+use Rattle.ec_base.specs.declared.limits.TheConstants.{MAX_STEPS}
 use Rattle.ec_core.specs.declared.choice.Act.{Act}
 use Rattle.ec_core.specs.declared.choice.Choice.{Choice}
 use Rattle.ec_core.specs.declared.choice.Stamped.{Stamped}
@@ -16,9 +18,6 @@ use Rattle.ec_driver.specs.Drive.{AreOwn, IsMade, IsProgress, IsGoing, eu_steps,
 
 -- ---- runs
 
-some_eq : {A : Type 0} (x y : A) → Some x ≡ Some y → x ≡ y
-some_eq x y e = cc
-
 then_push : (code : Code) (xs : List Choice) (c : Choice) (o : Option (List Node)) (w v : List Node) →
     ((s : List Node) → run code xs s ≡ Some w → run code (xs ++ c ∷ []) s ≡ Some v) →
     and_then o (run code xs) ≡ Some w → and_then o (run code (xs ++ c ∷ [])) ≡ Some v
@@ -29,7 +28,7 @@ then_push code xs c (Some s) w v more h = more s h
 run_push : (code : Code) (xs : List Choice) (c : Choice) (s w v : List Node) →
     run code xs s ≡ Some w → step code c w ≡ Some v → run code (xs ++ c ∷ []) s ≡ Some v
 run_push code [] c s w v h k =
-    ap (λ z. and_then (step code c z) (run code [])) (some_eq s w h) ∙ ap (λ o. and_then o (run code [])) k
+    ap (λ z. and_then (step code c z) (run code [])) (same_Some s w h) ∙ ap (λ o. and_then o (run code [])) k
 run_push code (x ∷ xs) c s w v h k = then_push code xs c (step code x s) w v (λ z g. run_push code xs c z w v g k) h
 
 -- ---- stamps and counts
@@ -77,8 +76,8 @@ advanced code c x m own h g sound k = record {
   own = own_push x.list (stamped x c) h.own own;
   eu = sum_by-append (λ (z : Stamped). cond (is_eu z.choice.act) 1 0) x.list (stamped x c ∷ []) ∙ one_more (is_eu c.act) (eu_steps x.list) x.eu h.eu;
   su = sum_by-append (λ (z : Stamped). cond (not (is_eu z.choice.act)) 1 0) x.list (stamped x c ∷ []) ∙ one_other (is_eu c.act) (su_steps x.list) x.su h.su;
-  eu_fits = fits_more (is_eu c.act) x.eu 1048576 g.eu;
-  su_fits = fits_other (is_eu c.act) x.su 1048576 g.su;
+  eu_fits = fits_more (is_eu c.act) x.eu MAX_STEPS g.eu;
+  su_fits = fits_other (is_eu c.act) x.su MAX_STEPS g.su;
 }
 
 -- what is kept is what the loop knows next

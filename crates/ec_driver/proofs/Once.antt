@@ -1,6 +1,7 @@
 -- A source is refused once: it has one cut, of its tokens one is the first that fits no program of the whole language, and
 -- one the first that fits no small program.
-use Rattle.std.proofs.Common.{◌≡◌, ◌≤◌, ◌<◌, ◌+◌, ◌⊎◌, inl, inr, ℕ, List, [], ◌∷◌, ◌++◌, take, drop, refl, ap, sym, ◌∙◌, subst, append_assoc, arith, Some, slice_get}
+use Rattle.std.proofs.Common.{◌≡◌, ◌≤◌, ◌<◌, ◌+◌, ◌⊎◌, inl, inr, ℕ, List, ◌++◌, take, drop, ap, sym, ◌∙◌, subst, append_assoc, arith, Some, slice_get}
+use Rattle.std.proofs.lemmas.Option.{same_Some}
 use Rattle.std.proofs.lemmas.List.{take-append-drop, take-take}
 use Rattle.std.proofs.lemmas.Bool.{cases_order}
 use Rattle.ec_base.specs.declared.token.Token.{Token}
@@ -12,9 +13,6 @@ use Rattle.ec_driver.specs.declared.status.Refusal.{Refusal}
 use Rattle.ec_driver.specs.Lines.{not_program, not_token, not_yet}
 use Rattle.ec_driver.specs.Source.{Breaks, Misfits, Rejects, Stops, StopsAt}
 use Rattle.ec_driver.proofs.Unique.{no_misfit, same_tokens, unbroken}
-
-some_eq : {A : Type 0} (x y : A) → Some x ≡ Some y → x ≡ y
-some_eq x y e = cc
 
 -- ---- of the tokens of a program that isn't small
 
@@ -42,7 +40,7 @@ same_stop : (tokens : List Token) (r s : Refusal) → StopsAt tokens r → Stops
 same_stop tokens r s a b =
     let same : a.at ≡ b.at = by_order tokens a.at b.at a.refuses b.refuses (cases_order a.at b.at) in
     let there : Some a.token ≡ Some b.token = sym a.there ∙ ap (slice_get tokens) same ∙ b.there in
-    a.is ∙ ap (λ t. not_yet t.at) (some_eq a.token b.token there) ∙ sym b.is
+    a.is ∙ ap (λ t. not_yet t.at) (same_Some a.token b.token there) ∙ sym b.is
 
 -- ---- of a text
 
@@ -50,7 +48,7 @@ module _ (one : TextsHaveOneCut) (excluded : RefusedIsNoProgram) (once : OneRefu
   same_break : (r s : Refusal) → Breaks bytes r → Breaks bytes s → r ≡ s
   same_break r s a b =
       let same : Some a.first ≡ Some b.first = (one bytes b.before (Some b.first) b.cuts a.before (Some a.first) a.cuts).1 in
-      a.is ∙ ap not_token (some_eq a.first b.first same) ∙ sym b.is
+      a.is ∙ ap not_token (same_Some a.first b.first same) ∙ sym b.is
 
   -- a program that isn't small has tokens, and is no misfit
   no_stop : (r s : Refusal) → Stops bytes r → Misfits bytes s → ⊥

@@ -6,7 +6,7 @@ use Rattle.ec_reader.specs.Laws.{RefusedIsNoProgram}
 use Rattle.ec_small.specs.declared.tree.Program.{Program}
 use Rattle.ec_small.specs.Grammar as small
 use Rattle.ec_syntax.specs.declared.item.Program.{Program as Tree}
-use Rattle.ec_syntax.specs.Reading.{Reads}
+use Rattle.ec_syntax.specs.Grammar.Reading.{Reads}
 use Rattle.ec_driver.specs.declared.status.Refusal.{Refusal}
 use Rattle.ec_driver.specs.Source.{Accepts, Breaks, IsSource, Lexes, Misfits, Rejects}
 

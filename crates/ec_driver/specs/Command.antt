@@ -1,7 +1,8 @@
 -- Which words are a command.
-use Rattle.std.specs.Prelude.{◌≡◌, ℕ, ◌==◌, ◌&&◌, not, nat_lt, Bool, false, if◌then◌else◌, List, [], ◌∷◌, length, codes, slice_index, None, Result, Ok, Err, nat_eq}
+use Rattle.std.specs.Prelude.{◌≡◌, ℕ, ◌==◌, ◌&&◌, not, nat_lt, Bool, true, false, if◌then◌else◌, List, [], ◌∷◌, length, codes, slice_index, None, Result, Ok, Err, nat_eq}
 use Rattle.std.specs.List.{ends_with}
 use Rattle.std.specs.Cmp.Lexicographic.{pointwise}
+use Rattle.ec_base.specs.declared.limits.TheConstants.{MAX_STEPS}
 use Rattle.ec_driver.specs.declared.command.Command.{Command}
 use Rattle.ec_driver.specs.declared.command.Command.TheVariants.{Check, Print, Run}
 use Rattle.ec_driver.specs.declared.command.RunWords.{RunWords}
@@ -20,7 +21,7 @@ is_file w = nat_lt 0 (length w) && not (is_option w) && not (ends_with nat_eq w 
 
 -- the words of `run` with all that they leave out
 abbrev pub run_of : List ℕ → RunWords
-run_of file = record { file = file; args = []; nodes = 1; steps = 1048576; memory = false; journal = None }
+run_of file = record { file = file; args = []; nodes = 1; steps = MAX_STEPS; memory = false; journal = None }
 
 -- the command of this name for a file
 abbrev pub told_name : List ℕ → List ℕ → Result Command WordsRefusal
@@ -49,27 +50,12 @@ IsNoCommand words = told_command words ≡ Err (record {})
 abbrev pub IsCommand : List (List ℕ) → Command → Type 0
 IsCommand words c = told_command words ≡ Ok c
 
--- the words are `run` with these words of its own
-abbrev pub IsRun : List (List ℕ) → RunWords → Type 0
-IsRun words r = told_command words ≡ Ok (Run r)
-
 -- some words give this command
 abbrev pub IsGiven : Command → Type 0
 IsGiven c = (words : List (List ℕ)) × (told_command words ≡ Ok c)
 
--- the file that a command reads
-abbrev pub file_of : Command → List ℕ
-file_of (Check file) = file
-file_of (Print file) = file
-file_of (Run r) = r.file
-
--- a command that runs a program, and one that doesn't
-abbrev pub ForThreaded : Command → Type 0
-ForThreaded (Check file) = ⊥
-ForThreaded (Print file) = ⊥
-ForThreaded (Run r) = Unit {0}
-
-abbrev pub ForPlain : Command → Type 0
-ForPlain (Check file) = Unit {0}
-ForPlain (Print file) = Unit {0}
-ForPlain (Run r) = ⊥
+-- whether a command runs a program, for which it may wait
+abbrev pub is_threaded : Command → Bool
+is_threaded (Check file) = false
+is_threaded (Print file) = false
+is_threaded (Run r) = true

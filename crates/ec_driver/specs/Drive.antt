@@ -1,8 +1,10 @@
 -- What the loop keeps from turn to turn.
 use Rattle.std.specs.Prelude.{◌≡◌, ◌⊎◌, ℕ, ◌+◌, ◌≤◌, ◌<◌, true, false, if◌then◌else◌, not, count_by, List, [], ◌∷◌, ◌++◌, length, Option, Some, None}
+use Rattle.ec_base.specs.declared.limits.TheConstants.{MAX_STEPS}
 use Rattle.ec_core.specs.declared.choice.Act.{Act}
 use Rattle.ec_core.specs.declared.choice.Choice.{Choice}
 use Rattle.ec_core.specs.declared.choice.Stamped.{Stamped}
+use Rattle.ec_core.specs.declared.choice.Run.{Run}
 use Rattle.ec_core.specs.declared.code.Code.{Code}
 use Rattle.ec_core.specs.declared.node.Node.{Node}
 use Rattle.ec_core.specs.Step.{enabled}
@@ -11,7 +13,9 @@ use Rattle.ec_small.specs.declared.tree.Program.{Program}
 use Rattle.ec_small.specs.Sound.{Sound}
 use Rattle.ec_split.specs.Cut.{code_of}
 use Rattle.ec_agree.specs.Agree.{own}
+use Rattle.ec_driver.specs.declared.command.RunWords.{RunWords}
 use Rattle.ec_driver.specs.declared.drive.Progress.{Progress}
+use Rattle.ec_driver.specs.Ending.{Ending, ran}
 use Rattle.ec_driver.specs.Kept.{is_eu, choices, StampedFrom}
 
 -- the code is that of some program
@@ -39,18 +43,18 @@ pub record IsProgress (code : Code) (x : Progress) : Type 0 where
   pub own : AreOwn x.list
   pub eu : eu_steps x.list ≡ x.eu
   pub su : su_steps x.list ≡ x.su
-  pub eu_fits : x.eu ≤ 1048576
-  pub su_fits : x.su ≤ 1048576
+  pub eu_fits : x.eu ≤ MAX_STEPS
+  pub su_fits : x.su ≤ MAX_STEPS
 
 -- the world has ended, or a unit has made all its steps
 abbrev pub IsStopped : Progress → Type 0
-IsStopped x = HasEnded x.world.nodes ⊎ ((1048576 ≤ x.eu) ⊎ (1048576 ≤ x.su))
+IsStopped x = HasEnded x.world.nodes ⊎ ((MAX_STEPS ≤ x.eu) ⊎ (MAX_STEPS ≤ x.su))
 
 -- the world hasn't ended, and each unit has steps left
 pub record IsGoing (x : Progress) : Type 0 where
   pub unended : HasEnded x.world.nodes → ⊥
-  pub eu : x.eu < 1048576
-  pub su : x.su < 1048576
+  pub eu : x.eu < MAX_STEPS
+  pub su : x.su < MAX_STEPS
 
 -- an act of node 0 that is enabled, or there is none
 abbrev pub Chosen : List Node → Option Act → Type 0
@@ -65,3 +69,11 @@ kept c x = record {
   eu = if is_eu c.act then x.eu + 1 else x.eu;
   su = if is_eu c.act then x.su else x.su + 1;
 }
+
+-- the run that is kept of these choices
+abbrev pub kept_run : RunWords → List Stamped → Run
+kept_run c list = record { nodes = c.nodes; steps = c.steps; list = list }
+
+-- how the run of these choices ends
+abbrev pub ran_to : RunWords → Code → Progress → Ending
+ran_to c code x = ran code (kept_run c x.list) x.world.nodes

@@ -1,5 +1,5 @@
 -- What a kept run is.
-use Rattle.std.specs.Prelude.{◌≡◌, ℕ, ◌+◌, ◌*◌, ◌≤◌, ◌==◌, Bool, true, false, if◌then◌else◌, List, [], ◌∷◌, map, count_by, Option, Some}
+use Rattle.std.specs.Prelude.{◌≡◌, ℕ, ◌+◌, ◌*◌, ◌≤◌, ◌==◌, Bool, true, false, if◌then◌else◌, List, [], ◌∷◌, map, count_by, Some}
 use Rattle.ec_core.specs.declared.choice.Act.{Act}
 use Rattle.ec_core.specs.declared.choice.Act.TheVariants.{EuReady, EuSpawn, EuEvent, EuHungry, SuEvent, SuNet, SuReady, SuSend}
 use Rattle.ec_core.specs.declared.choice.Choice.{Choice}
@@ -8,13 +8,14 @@ use Rattle.ec_core.specs.declared.choice.Run.{Run}
 use Rattle.ec_core.specs.declared.code.Code.{Code}
 use Rattle.ec_core.specs.declared.node.Node.{Node}
 use Rattle.ec_core.specs.Run.{run, start, HasEnded}
+use Rattle.ec_core.specs.Valid.{valid}
 use Rattle.ec_small.specs.declared.tree.Program.{Program}
 use Rattle.ec_small.specs.Meaning.{meaning}
 use Rattle.ec_split.specs.Owes.{Owes}
 use Rattle.ec_agree.specs.Agree.{Agrees, EveryRunAgrees, EveryRunGoesOn}
 use Rattle.ec_driver.specs.declared.command.RunWords.{RunWords}
-use Rattle.ec_driver.specs.declared.status.Report.{Report}
-use Rattle.ec_driver.specs.Source.{IsText}
+use Rattle.ec_driver.specs.Ending.{Ending, ran}
+use Rattle.ec_driver.specs.Source.{Accepts}
 
 -- ---- the steps of units
 
@@ -46,13 +47,7 @@ abbrev pub StampedFrom : ℕ → List Stamped → Type 0
 StampedFrom k [] = Unit {0}
 StampedFrom k (x ∷ xs) = (x.stamp ≡ k) × StampedFrom (k + 1) xs
 
--- ---- a report's run
-
--- the run r of a report, of its code, leads from the start that the words ask for to the world w
-pub record IsLast (c : RunWords) (x : Report) (code : Code) (r : Run) (w : List Node) : Type 0 where
-  pub run_is : x.run ≡ Some r
-  pub code_is : x.code ≡ Some code
-  pub leads : run code (choices r.list) (start code c.nodes c.args) ≡ Some w
+-- ---- a run that is kept
 
 -- the run has the nodes and the steps that the words ask for, and no unit makes more steps
 pub record IsWithin (c : RunWords) (r : Run) : Type 0 where
@@ -65,12 +60,25 @@ pub record IsWithin (c : RunWords) (r : Run) : Type 0 where
 abbrev pub IsSpent : Run → Type 0
 IsSpent r = (unit : ℕ) × (steps_of unit r.list ≡ r.steps)
 
--- the code is what this program is owed; the program is that of some text, which is the file's where the shelf tells it.
--- Where the world has ended it agrees with the program's meaning; and so does every list of steps of this code, whatever
--- arguments it starts with, and goes on where it hasn't ended
-pub record IsCodeOf (content : Option (List ℕ)) (p : Program) (code : Code) (w : List Node) : Type 0 where
+-- the code is valid, and what this program is owed. Where the world has ended it agrees with the program's meaning; and
+-- so does every list of steps of this code, whatever arguments it starts with, and goes on where it hasn't ended
+pub record IsCodeOf (p : Program) (code : Code) (w : List Node) : Type 0 where
+  pub valid : valid code ≡ true
   pub owes : Owes p code
-  pub text : IsText content p
   pub agrees : HasEnded w → Agrees w (meaning p)
   pub every_run_agrees : EveryRunAgrees p code
   pub every_run_goes_on : EveryRunGoesOn code
+
+-- the run is of this code of the text's program, from the start that the words ask for to this last world, which has ended
+-- or a unit's steps are spent
+pub record RunsTo (c : RunWords) (text : List ℕ) (code : Code) (r : Run) (w : List Node) : Type 0 where
+  pub program : Program
+  pub accepts : Accepts text program
+  pub code_of : IsCodeOf program code w
+  pub within : IsWithin c r
+  pub leads : run code (choices r.list) (start code c.nodes c.args) ≡ Some w
+  pub spent : (HasEnded w → ⊥) → IsSpent r
+
+-- how the run of a text may end
+abbrev pub Runs : RunWords → List ℕ → Ending → Type 0
+Runs c text e = (code : Code) × (r : Run) × (w : List Node) × RunsTo c text code r w × (e ≡ ran code r w)

@@ -1,11 +1,13 @@
--- what the clauses of `earthc` rest on, in reading order
+-- to be believed, in reading order: what the clauses of `earthc` rest on
 pub mod Command
+pub mod Status
+pub mod Reason
 pub mod Lines
 pub mod Source
 pub mod Once
-pub mod Said
+pub mod Ending
 pub mod Kept
-pub mod Report
+pub mod Task
 -- what the functions inside the crate promise each other
 pub mod Load
 pub mod Drive

@@ -13,4 +13,5 @@ abbrev pub AcceptedIsNotRefused : Type 0
 AcceptedIsNotRefused = (bytes : List ℕ) (p : Program) (r : Refusal) → Accepts bytes p → Rejects bytes r → ⊥
 
 abbrev pub ProgramIsNoMisfit : Type 0
-ProgramIsNoMisfit = (bytes : List ℕ) (tokens : List Token) (tree : Tree) (r : Refusal) → IsSource bytes tokens tree → Misfits bytes r → ⊥
+ProgramIsNoMisfit =
+    (bytes : List ℕ) (tokens : List Token) (tree : Tree) (r : Refusal) → IsSource bytes tokens tree → Misfits bytes r → ⊥

@@ -1,5 +1,6 @@
 -- Which sources are accepted, and why and where the others are refused.
-use Rattle.std.specs.Prelude.{◌≡◌, ◌⊎◌, ℕ, ◌≤◌, ◌<◌, true, List, length, codes, Option, Some, None, slice_get}
+use Rattle.std.specs.Prelude.{◌≡◌, ◌⊎◌, ℕ, ◌≤◌, ◌<◌, true, List, length, Some, None, slice_get}
+use Rattle.ec_base.specs.declared.limits.TheConstants.{MAX_SOURCE}
 use Rattle.ec_base.specs.declared.token.Token.{Token}
 use Rattle.ec_lex.specs.declared.fault.LexRefusal.{LexRefusal}
 use Rattle.ec_lex.specs.Tokens.{Cuts}
@@ -9,7 +10,7 @@ use Rattle.ec_reader.specs.Refusals.{Refuses}
 use Rattle.ec_small.specs.declared.tree.Program.{Program}
 use Rattle.ec_small.specs.Grammar as small
 use Rattle.ec_syntax.specs.declared.item.Program.{Program as Tree}
-use Rattle.ec_syntax.specs.Reading.{Reads}
+use Rattle.ec_syntax.specs.Grammar.Reading.{Reads}
 use Rattle.ec_driver.specs.declared.status.Refusal.{Refusal}
 use Rattle.ec_driver.specs.Lines.{not_program, not_token, not_yet, too_long}
 
@@ -17,12 +18,12 @@ use Rattle.ec_driver.specs.Lines.{not_program, not_token, not_yet, too_long}
 
 -- the bytes are few enough, and have these tokens and no refusal
 pub record Lexes (bytes : List ℕ) (tokens : List Token) : Type 0 where
-  pub short : length bytes ≤ 1048576
+  pub short : length bytes ≤ MAX_SOURCE
   pub cuts : Cuts 0 true bytes tokens None
 
 -- the bytes are few enough, and this is the first refusal of their tokens
 pub record Breaks (bytes : List ℕ) (r : Refusal) : Type 0 where
-  pub short : length bytes ≤ 1048576
+  pub short : length bytes ≤ MAX_SOURCE
   pub before : List Token
   pub first : LexRefusal
   pub cuts : Cuts 0 true bytes before (Some first)
@@ -45,7 +46,7 @@ pub record Misreads (bytes : List ℕ) (r : Refusal) : Type 0 where
 
 -- the bytes are too many, or are no tokens, or no program of the whole language: the refusal says which, and where
 abbrev pub Misfits : List ℕ → Refusal → Type 0
-Misfits bytes r = ((1048576 < length bytes) × (r ≡ too_long)) ⊎ (Breaks bytes r ⊎ Misreads bytes r)
+Misfits bytes r = ((MAX_SOURCE < length bytes) × (r ≡ too_long)) ⊎ (Breaks bytes r ⊎ Misreads bytes r)
 
 -- ---- small programs
 
@@ -75,34 +76,15 @@ pub record Stops (bytes : List ℕ) (r : Refusal) : Type 0 where
 abbrev pub Rejects : List ℕ → Refusal → Type 0
 Rejects bytes r = Misfits bytes r ⊎ Stops bytes r
 
--- ---- what is written of a source that isn't run
+-- ---- texts that are in order
 
--- of an accepted one that it is accepted
-abbrev pub Checks : List ℕ → List ℕ → Type 0
-Checks bytes text = ((p : Program) × Accepts bytes p) × (text ≡ codes "accepted\n")
+-- the bytes are a small program
+abbrev pub IsSmall : List ℕ → Type 0
+IsSmall bytes = (p : Program) × Accepts bytes p
 
--- of a program of the whole language its canonical text
+-- the bytes are a program of the whole language, and this is its canonical text
 abbrev pub Prints : List ℕ → List ℕ → Type 0
 Prints bytes text = (tokens : List Token) × (tree : Tree) × IsSource bytes tokens tree × (text ≡ canonical tree)
 
--- ---- files, whose content may be untold
-
--- these are the content's bytes, where it is told
-abbrev pub IsContent : Option (List ℕ) → List ℕ → Type 0
-IsContent content bytes = (told : List ℕ) → content ≡ Some told → told ≡ bytes
-
--- this holds of some text, which is the content where it is told
-abbrev pub OfContent : Option (List ℕ) → (List ℕ → Type 0) → Type 0
-OfContent content holds = (bytes : List ℕ) × IsContent content bytes × holds bytes
-
--- the program is the content's
-abbrev pub IsText : Option (List ℕ) → Program → Type 0
-IsText content p = OfContent content (λ bytes. Accepts bytes p)
-
--- this is to be written of the content
-abbrev pub IsWritten : (List ℕ → List ℕ → Type 0) → Option (List ℕ) → List ℕ → Type 0
-IsWritten writes content text = OfContent content (λ bytes. writes bytes text)
-
--- the refusal is the content's
-abbrev pub IsRefused : (List ℕ → Refusal → Type 0) → Option (List ℕ) → Refusal → Type 0
-IsRefused rejects content r = OfContent content (λ bytes. rejects bytes r)
+abbrev pub IsProgram : List ℕ → Type 0
+IsProgram bytes = (tokens : List Token) × (tree : Tree) × IsSource bytes tokens tree

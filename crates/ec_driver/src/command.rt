@@ -1,7 +1,7 @@
 //! Command words.
 ghost use Rattle.std.specs.Prelude.{◌≡◌, IfOk};
 ghost use Rattle.ec_base.specs.Answers.{Answers};
-ghost use Rattle.ec_driver.specs.Command.{is_file, is_option, run_of, told_command, told_pair};
+ghost use Rattle.ec_driver.specs.Command.{is_file, is_option, is_threaded, run_of, told_command, told_pair};
 
 use ec_base::{Fail, List, MAX_STEPS, Text};
 use std::alloc::{AllocError, Global};
@@ -16,8 +16,20 @@ pub enum Command {
     Run(RunWords),
 }
 
-/// The words of `run`: the file, the arguments of main, the number of nodes, the steps that a unit may make, whether the
-/// memory is asked for, and the file for the journal.
+impl Command {
+    /// Whether it runs a program, for which it may wait.
+    pub fn is_threaded(&self) -> bool
+        ensures { result ≡ is_threaded self.now }
+    {
+        match self {
+            Command::Check(_) | Command::Print(_) => false,
+            Command::Run(_) => true,
+        }
+    }
+}
+
+/// The words of `run`: the file, the arguments of main, the number of nodes, the steps that a unit may make, whether
+/// the memory is asked for, and the file for the journal.
 #[derive(Drop)]
 pub struct RunWords {
     pub file: Text,
@@ -85,7 +97,7 @@ fn run_of(alloc: Global, file: &Text) -> Result<RunWords, AllocError>
         file: file.copy(alloc)?,
         args: List::new(alloc),
         nodes: 1,
-        steps: MAX_STEPS,
+        steps: MAX_STEPS as u64,
         memory: false,
         journal: None,
     })

@@ -1,5 +1,5 @@
 //! The loop that runs a world: it chooses the steps and keeps them.
-ghost use Rattle.std.specs.Prelude.{◌≡◌, ◌<◌, ◌+◌, false, OnOk, IfOk, IsTrue};
+ghost use Rattle.std.specs.Prelude.{◌≡◌, ◌<◌, ◌+◌, ◌*◌, false, OnOk, IfOk, IsTrue};
 ghost use Rattle.ec_driver.specs.Kept.{is_eu};
 ghost use Rattle.ec_driver.specs.Drive.{Chosen, IsGoing, IsMade, IsProgress, IsStopped, kept};
 ghost use Rattle.ec_agree.specs.Agree.{own};
@@ -80,7 +80,7 @@ impl Progress {
         ensures stopped { IsTrue result → IsStopped self.now }
         ensures goes_on { (result ≡ false) → IsGoing self.now }
     {
-        self.world.ended() || self.eu >= MAX_STEPS || self.su >= MAX_STEPS
+        self.world.ended() || self.eu >= MAX_STEPS as u64 || self.su >= MAX_STEPS as u64
     }
 
     /// Makes one step and keeps it.
@@ -106,7 +106,7 @@ impl Progress {
 
     /// Keeps a choice that was made, with its place as its stamp.
     fn keep(&mut self, choice: Choice) -> Result<(), NoMemory>
-        requires { self.old.eu + self.old.su < 4194304 }
+        requires { self.old.eu + self.old.su < 2 * MAX_STEPS }
         ensures { OnOk result (self.new ≡ kept choice self.old) }
     {
         let stamp = self.eu + self.su + 1;

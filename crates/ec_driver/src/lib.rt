@@ -1,11 +1,12 @@
 //! The top call: from command words to what is written and reported.
-//! `specs/Report.antt` says what a report promises.
+//! `specs/Task.antt` has the table of what each command does.
 #![tactic(auto)]
 
 mod command;
 mod drive;
 mod laws;
 mod line;
+mod reason;
 mod run;
 mod say;
 mod source;
@@ -14,8 +15,6 @@ mod top;
 
 pub use command::{Command, RunWords};
 pub use laws::sources_are_refused_once;
+pub use say::stop;
 pub use status::{Refusal, Report, Status};
 pub use top::{earthc, plain, threaded};
-
-#[cfg(test)]
-mod tests;

@@ -1,8 +1,10 @@
 //! The lines for the error stream.
 ghost use Rattle.std.specs.Prelude.{◌≡◌, ◌++◌, IfOk, OnOk, OnErr, List, ℕ};
 ghost use Rattle.std.specs.Fmt.{decimal, signed_decimal};
-ghost use Rattle.ec_driver.specs.Lines.{line_of, name_of, place, refusal_line, result_line};
+ghost use Rattle.ec_driver.specs.Lines.{line_of, place, refusal_line, result_line};
+ghost use Rattle.ec_driver.specs.Reason.{name_of, reason_of};
 
+use crate::reason::Reason;
 use crate::status::{Refusal, Status};
 use ec_base::{Span, Text};
 use itoa::Buffer;
@@ -16,22 +18,13 @@ fn append_place(line: &mut Text, at: Span) -> Result<(), AllocError>
     line.append(Buffer::new().format(at.to).as_bytes())
 }
 
-/// The name of a refusal by its number.
+/// The name of the refusal with this number, or nothing where there is none.
 fn name(what: u8) -> &'static [u8]
-    ensures { result.now ≡ name_of what }
+    ensures { result.now ≡ name_of (reason_of what) }
 {
-    match what {
-        1 => b"BadByte",
-        2 => b"BadNumber",
-        3 => b"OpenComment",
-        4 => b"OpenString",
-        5 => b"BadEscape",
-        6 => b"HashLine",
-        7 => b"TooLong",
-        10 => b"Expected",
-        11 => b"TooDeep",
-        12 => b"TooMany",
-        _ => b"NotYet",
+    match Reason::numbered(what) {
+        Some(reason) => reason.name(),
+        None => b"",
     }
 }
 

@@ -1,11 +1,13 @@
 //! From a file to the tree of its program, or to its canonical text.
-ghost use Rattle.std.specs.Prelude.{◌≡◌, List, MatchResult, ℕ};
+ghost use Rattle.std.specs.Prelude.{◌≡◌, IfErr, IfOk, OnOk, MatchResult};
 ghost use Rattle.ec_base.specs.Lexical.{AreTokens};
-ghost use Rattle.ec_edge.specs.Edge.{Rose};
+ghost use Rattle.ec_edge.specs.Shelf.{OnlyReads};
 ghost use Rattle.ec_small.specs.Grammar.{Reads};
 ghost use Rattle.ec_small.specs.Sound.{Sound};
-ghost use Rattle.ec_driver.specs.Load.{Fails, Unread, status_of};
-ghost use Rattle.ec_driver.specs.Source.{Accepts, IsContent, IsSource, IsText, IsWritten, Lexes, Misfits, Prints, Rejects, StopsAt};
+ghost use Rattle.ec_driver.specs.Load.{Fails, OfText, Unread, status_of};
+ghost use Rattle.ec_driver.specs.Source.{Accepts, IsSource, Lexes, Misfits, Prints, Rejects, StopsAt};
+ghost use Rattle.ec_driver.specs.Status.{ReadsAs};
+ghost use Rattle.ec_driver.specs.Task.{IsText};
 
 use crate::status::{Refusal, Status};
 use ec_base::{Fail, MAX_SOURCE, Text, Token, Tokens};
@@ -27,7 +29,7 @@ pub(crate) struct Parsed {
 fn cut(alloc: Global, text: &Text) -> Result<Tokens, Fail<Refusal>>
     ensures { MatchResult result (Lexes text.now) (Fails (Misfits text.now)) }
 {
-    if text.len() > MAX_SOURCE {
+    if text.len() > MAX_SOURCE as usize {
         return Err(Fail::Refused(Refusal::too_long()));
     }
     match lex(alloc, text.as_slice()) {
@@ -87,11 +89,13 @@ fn status_of(fail: Fail<Refusal>) -> Status
     }
 }
 
-/// The text of a file, or the status that tells why there is none. The shelf stays as it is.
+/// The text of a file, or the status that tells why there is none. The shelf is only read.
 fn fetch<S: Shelf>(shelf: &mut S, file: &Text) -> Result<Text, Status>
-    ensures fetched { MatchResult result (IsContent (S.content shelf.old file.now)) (Unread Misfits (S.content shelf.old file.now) (Rose (S.read_count shelf.old) (S.read_count shelf.new))) }
-    ensures stays { (name : List ℕ) → S.content shelf.new name ≡ S.content shelf.old name }
-    ensures unwritten { S.write_count shelf.new ≡ S.write_count shelf.old }
+    ensures ok { IfOk result (IsText ((S.has shelf.old).told file.now)) }
+    ensures err { IfErr result (Unread Misfits ((S.has shelf.old).told file.now)) }
+    ensures only { OnlyReads (S.has shelf.old) (S.has shelf.new) }
+    ensures quiet { OnOk result ((S.has shelf.new).read_faults ≡ (S.has shelf.old).read_faults) }
+    ensures reads { IfErr result (λ s. ReadsAs s (S.has shelf.old).read_faults (S.has shelf.new).read_faults) }
 {
     match shelf.read(file, MAX_SOURCE as u64) {
         Ok(ReadEnd::Whole(text)) => Ok(text),
@@ -101,11 +105,13 @@ fn fetch<S: Shelf>(shelf: &mut S, file: &Text) -> Result<Text, Status>
     }
 }
 
-/// The tree of a file, or the status that tells why there is none. The shelf stays as it is.
+/// The tree of a file, or the status that tells why there is none. The shelf is only read.
 pub(crate) fn load<S: Shelf>(alloc: Global, shelf: &mut S, file: &Text) -> Result<Program, Status>
-    ensures loaded { MatchResult result (λ p. IsText (S.content shelf.old file.now) p × Sound p) (Unread Rejects (S.content shelf.old file.now) (Rose (S.read_count shelf.old) (S.read_count shelf.new))) }
-    ensures stays { (name : List ℕ) → S.content shelf.new name ≡ S.content shelf.old name }
-    ensures unwritten { S.write_count shelf.new ≡ S.write_count shelf.old }
+    ensures ok { IfOk result (λ p. OfText ((S.has shelf.old).told file.now) (λ text. Accepts text p) × Sound p) }
+    ensures err { IfErr result (Unread Rejects ((S.has shelf.old).told file.now)) }
+    ensures only { OnlyReads (S.has shelf.old) (S.has shelf.new) }
+    ensures quiet { OnOk result ((S.has shelf.new).read_faults ≡ (S.has shelf.old).read_faults) }
+    ensures reads { IfErr result (λ s. ReadsAs s (S.has shelf.old).read_faults (S.has shelf.new).read_faults) }
 {
     let text = fetch(shelf, file)?;
     match tree(alloc, &text) {
@@ -114,16 +120,21 @@ pub(crate) fn load<S: Shelf>(alloc: Global, shelf: &mut S, file: &Text) -> Resul
     }
 }
 
-/// The canonical text of a file, or the status that tells why there is none. The shelf stays as it is.
+/// The canonical text of a file, or the status that tells why there is none. The shelf is only read.
 pub(crate) fn load_printed<S: Shelf>(
     alloc: Global,
     shelf: &mut S,
     file: &Text,
 ) -> Result<Text, Status>
-    ensures loaded { MatchResult result (IsWritten Prints (S.content shelf.old file.now)) (Unread Misfits (S.content shelf.old file.now) (Rose (S.read_count shelf.old) (S.read_count shelf.new))) }
-    ensures stays { (name : List ℕ) → S.content shelf.new name ≡ S.content shelf.old name }
-    ensures unwritten { S.write_count shelf.new ≡ S.write_count shelf.old }
+    ensures ok { IfOk result (λ canon. OfText ((S.has shelf.old).told file.now) (λ text. Prints text canon)) }
+    ensures err { IfErr result (Unread Misfits ((S.has shelf.old).told file.now)) }
+    ensures only { OnlyReads (S.has shelf.old) (S.has shelf.new) }
+    ensures quiet { OnOk result ((S.has shelf.new).read_faults ≡ (S.has shelf.old).read_faults) }
+    ensures reads { IfErr result (λ s. ReadsAs s (S.has shelf.old).read_faults (S.has shelf.new).read_faults) }
 {
     let text = fetch(shelf, file)?;
-    canonical(alloc, &text).map_err(status_of)
+    match canonical(alloc, &text) {
+        Ok(canon) => Ok(canon),
+        Err(fail) => Err(status_of(fail)),
+    }
 }

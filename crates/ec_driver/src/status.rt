@@ -1,8 +1,11 @@
 //! How a command ends.
 ghost use Rattle.std.specs.Prelude.{◌≡◌};
-ghost use Rattle.ec_driver.specs.Lines.{not_program, not_token, not_yet, number_of, too_long};
+ghost use Rattle.ec_driver.specs.Lines.{not_program, not_token, not_yet, refusal, too_long};
+ghost use Rattle.ec_driver.specs.Ending.{bare};
+ghost use Rattle.ec_driver.specs.Status.{number_of};
 
-use ec_base::Span;
+use crate::reason::Reason;
+use ec_base::{MAX_SOURCE, Span};
 use ec_core::{Code, Run};
 use ec_lex::LexRefusal;
 use ec_reader::ReadRefusal;
@@ -16,6 +19,17 @@ pub struct Refusal {
 }
 
 impl Refusal {
+    /// A refusal for this reason, which speaks of one place.
+    fn new(reason: Reason, at: Span) -> Refusal
+        ensures { result ≡ refusal reason at }
+    {
+        Refusal {
+            what: reason.number(),
+            at,
+            other: None,
+        }
+    }
+
     /// The text has no token here.
     pub(crate) fn not_token(first: LexRefusal) -> Refusal
         ensures { result ≡ not_token first }
@@ -42,25 +56,15 @@ impl Refusal {
     pub(crate) fn too_long() -> Refusal
         ensures { result ≡ too_long }
     {
-        Refusal {
-            what: 7,
-            at: Span {
-                from: 1_048_576,
-                to: 1_048_577,
-            },
-            other: None,
-        }
+        let from = MAX_SOURCE;
+        Refusal::new(Reason::TooLong, Span { from, to: from + 1 })
     }
 
     /// No program of the forms that are built continues after the token here.
     pub(crate) fn not_yet(at: Span) -> Refusal
         ensures { result ≡ not_yet at }
     {
-        Refusal {
-            what: 9,
-            at,
-            other: None,
-        }
+        Refusal::new(Reason::NotYet, at)
     }
 }
 
@@ -106,4 +110,28 @@ pub struct Report {
     pub status: Status,
     pub run: Option<Run>,
     pub code: Option<Code>,
+}
+
+impl Report {
+    /// Nothing but a status.
+    pub(crate) fn bare(status: Status) -> Report
+        ensures { result ≡ bare status }
+    {
+        Report {
+            status,
+            run: None,
+            code: None,
+        }
+    }
+
+    /// The same run and code with this status.
+    pub(crate) fn with(self, status: Status) -> Report
+        ensures { result ≡ record self { status = status } }
+    {
+        Report {
+            status,
+            run: self.run,
+            code: self.code,
+        }
+    }
 }

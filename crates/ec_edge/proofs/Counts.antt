@@ -1,6 +1,6 @@
 -- A count that rose has also risen since an earlier count, and by a later one.
 use Rattle.std.proofs.Common.{ℕ, ◌≤◌, inl, inr, arith}
-use Rattle.ec_edge.specs.Edge.{Rose}
+use Rattle.ec_edge.specs.Fault.{Rose}
 
 pub Rose-since : (earlier old new : ℕ) → earlier ≤ old → old ≤ new → Rose old new → Rose earlier new
 Rose-since earlier old new before after (inl rose) = inl (omega arith)

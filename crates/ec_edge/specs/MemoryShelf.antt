@@ -7,38 +7,64 @@ use Rattle.ec_base.specs.declared.fail.Fail.TheVariants.{Memory, Refused}
 use Rattle.ec_edge.specs.declared.ends.ReadEnd.{ReadEnd}
 use Rattle.ec_edge.specs.declared.memory_shelf.MemShelf.{MemShelf}
 use Rattle.ec_edge.specs.declared.memory_shelf.Written.{Written}
-use Rattle.ec_edge.specs.Edge.{told_end}
+use Rattle.ec_edge.specs.Fault.{raised}
+use Rattle.ec_edge.specs.Shelf.{Gives, SeenShelf, Told, bytes_of, holds, missing, untold}
 
--- what the first of the files with this name holds
-abbrev pub given : List ℕ → List (List ℕ × List ℕ) → Option (List ℕ)
-given name [] = None
-given name (file ∷ files) = if bytes_eq file.0 name then Some file.1 else given name files
+-- the first of the files with this name, if there is one
+abbrev pub given : List ℕ → List (List ℕ × List ℕ) → Told
+given name [] = missing
+given name (file ∷ files) = if bytes_eq file.0 name then holds file.1 else given name files
 
--- what a name's file holds after a write, which a write of another name leaves as it was
-abbrev pub after_one : List ℕ → Option (List ℕ) → Written → Option (List ℕ)
-after_one name before write = if bytes_eq write.name name then write.bytes else before
+-- what a write that ended well made of a file, or one that failed
+abbrev pub made : Option (List ℕ) → Told
+made (Some bytes) = holds bytes
+made None = untold
 
--- what a name's file holds after these writes, the oldest of which comes first
-abbrev pub after : List ℕ → Option (List ℕ) → List Written → Option (List ℕ)
+-- what is told of a name after a write, which leaves every other name as it was
+abbrev pub after_one : List ℕ → Told → Written → Told
+after_one name before write = if bytes_eq write.name name then made write.bytes else before
+
+-- what is told of a name after these writes, the oldest of which comes first
+abbrev pub after : List ℕ → Told → List Written → Told
 after name before [] = before
 after name before (write ∷ writes) = after name (after_one name before write) writes
 
--- what a name's file holds, where it is told
-abbrev pub content_of : MemShelf → List ℕ → Option (List ℕ)
-content_of shelf name = after name (given name shelf.files) shelf.written
+abbrev pub seen_shelf : MemShelf → SeenShelf
+seen_shelf s = record {
+  told = λ name. after name (given name s.files) s.written;
+  read_faults = s.read_faults;
+  write_faults = s.write_faults;
+}
+
+-- a shelf that was given these files, and had no call yet: those with these numbers will fail
+pub record IsNew (files : List (List ℕ × List ℕ)) (listed : List ℕ) (s : MemShelf) : Type 0 where
+  pub told : (name : List ℕ) → (seen_shelf s).told name ≡ given name files
+  pub fails : s.fails ≡ listed
+  pub calls : s.calls ≡ 0
+  pub read_faults : s.read_faults ≡ 0
+  pub write_faults : s.write_faults ≡ 0
 
 -- whether the call with this number is listed
 abbrev pub is_listed : ℕ → List ℕ → Bool
 is_listed call calls = list_any (λ listed. nat_eq listed call) calls
 
--- a read fails where its call is listed or nothing is told, and gives the content elsewhere
-abbrev pub ReadAsListed : {R : Type 0} → Bool → Option (List ℕ) → ℕ → Result ReadEnd (Fail R) → Type 0
-ReadAsListed listed content most (Ok end) = (listed ≡ false) × ((bytes : List ℕ) × (content ≡ Some bytes) × told_end bytes most end)
-ReadAsListed listed content most (Err Memory) = Unit {0}
-ReadAsListed listed content most (Err (Refused _)) = (listed ≡ true) ⊎ (content ≡ None)
+-- whether the next call will fail
+abbrev pub fails_next : MemShelf → Bool
+fails_next s = is_listed (raised s.calls) s.fails
 
--- a write fails where its call is listed
-abbrev pub WriteAsListed : {T R : Type 0} → Bool → Option (List ℕ) → Option (List ℕ) → List ℕ → Result T (Fail R) → Type 0
-WriteAsListed listed old new bytes (Ok _) = (listed ≡ false) × (new ≡ Some bytes)
-WriteAsListed listed old new bytes (Err Memory) = new ≡ old
-WriteAsListed listed old new bytes (Err (Refused _)) = (listed ≡ true) × (new ≡ None)
+-- the next call is one more, and the same ones are listed
+abbrev pub IsCounted : MemShelf → MemShelf → Type 0
+IsCounted old new = (new.calls ≡ raised old.calls) × (new.fails ≡ old.fails)
+
+-- a read fails where its call is listed or there are no bytes to give, and gives them elsewhere
+abbrev pub ReadsAs : {R : Type 0} → Bool → Told → ℕ → Result ReadEnd (Fail R) → Type 0
+ReadsAs listed told most (Ok end) =
+    (listed ≡ false) × ((bytes : List ℕ) × (told ≡ holds bytes) × Gives (holds bytes) most end)
+ReadsAs listed told most (Err Memory) = Unit {0}
+ReadsAs listed told most (Err (Refused _)) = (listed ≡ true) ⊎ (bytes_of told ≡ None)
+
+-- a write fails where its call is listed, and is told elsewhere
+abbrev pub WritesAs : {T R : Type 0} → Bool → List ℕ → Told → Result T (Fail R) → Type 0
+WritesAs listed bytes told (Ok _) = (listed ≡ false) × (told ≡ holds bytes)
+WritesAs listed bytes told (Err Memory) = Unit {0}
+WritesAs listed bytes told (Err (Refused _)) = (listed ≡ true) × (told ≡ untold)

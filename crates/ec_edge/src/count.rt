@@ -1,6 +1,6 @@
 //! Counts of faults.
 ghost use Rattle.std.specs.Prelude.{◌≡◌, ◌≤◌};
-ghost use Rattle.ec_edge.specs.Edge.{Rose, raised};
+ghost use Rattle.ec_edge.specs.Fault.{Rose, raised};
 
 /// The count after one more fault.
 pub fn raised(count: u64) -> u64

@@ -1,8 +1,10 @@
 //! The files of the system.
-ghost use Rattle.std.specs.Prelude.{◌≡◌, ◌≤◌, IsErr};
+ghost use Rattle.std.specs.Prelude.{◌≡◌, IsErr, OnOk};
 ghost use Rattle.std.specs.Str.{IsUtf8};
 ghost use Rattle.ec_base.specs.Answers.{OnRefused};
-ghost use Rattle.ec_edge.specs.Edge.{IsRefused, RaisedAtFault, Rose};
+ghost use Rattle.ec_edge.specs.Fault.{IsRefused, OnMemory, RaisedAtFault, Rose};
+ghost use Rattle.ec_edge.specs.Files.{seen_files};
+ghost use Rattle.ec_edge.specs.Shelf.{OnlyReads, OnlyWrites};
 
 use crate::count::raised;
 use crate::ends::{ReadEnd, ShelfFault};
@@ -23,7 +25,8 @@ pub struct FileShelf<R: Drop> {
 
 impl<R: Drop> FileShelf<R> {
     pub fn new(rt: R, alloc: Global) -> FileShelf<R>
-        ensures { result ≡ record { rt = rt; alloc = alloc; failed_reads = 0; failed_writes = 0 } }
+        ensures reads { (seen_files result).read_faults ≡ 0 }
+        ensures writes { (seen_files result).write_faults ≡ 0 }
     {
         FileShelf {
             rt,
@@ -66,13 +69,9 @@ fn save<R: Files>(rt: &R, name: &Text, bytes: &[u8]) -> Result<(), ShelfFault>
 }
 
 impl<R: Files + Drop> Shelf for FileShelf<R> {
-    ghost use Rattle.std.specs.Prelude.{None};
+    ghost use Rattle.ec_edge.specs.Files.{seen_files};
 
-    ghost content = { λ s name. None };
-
-    ghost read_count = { λ s. s.failed_reads };
-
-    ghost write_count = { λ s. s.failed_writes };
+    ghost has = { seen_files };
 
     fn read_faults(&self) -> u64 {
         self.failed_reads
@@ -84,9 +83,11 @@ impl<R: Files + Drop> Shelf for FileShelf<R> {
 
     fn read(&mut self, name: &Text, most: u64) -> Result<ReadEnd, Fail<ShelfFault>>
         ensures path { ¬ (IsUtf8 name.now) → IsRefused result }
-        ensures counts { (self.old.failed_reads ≤ self.new.failed_reads) × (self.new.failed_writes ≡ self.old.failed_writes) }
-        ensures fault { OnRefused result (Rose self.old.failed_reads self.new.failed_reads) }
-        ensures raised { RaisedAtFault self.old.failed_reads self.new.failed_reads result }
+        ensures only { OnlyReads (seen_files self.old) (seen_files self.new) }
+        ensures quiet { OnOk result ((seen_files self.new).read_faults ≡ (seen_files self.old).read_faults) }
+        ensures fault { OnRefused result (Rose (seen_files self.old).read_faults (seen_files self.new).read_faults) }
+        ensures memory { OnMemory result (seen_files self.new ≡ seen_files self.old) }
+        ensures raised { RaisedAtFault (seen_files self.old).read_faults (seen_files self.new).read_faults result }
     {
         let answer = load(&self.rt, self.alloc, name, most);
         if let Err(Fail::Refused(_)) = &answer {
@@ -97,9 +98,11 @@ impl<R: Files + Drop> Shelf for FileShelf<R> {
 
     fn write(&mut self, name: &Text, bytes: &[u8]) -> Result<(), Fail<ShelfFault>>
         ensures path { ¬ (IsUtf8 name.now) → IsRefused result }
-        ensures counts { (self.old.failed_writes ≤ self.new.failed_writes) × (self.new.failed_reads ≡ self.old.failed_reads) }
-        ensures fault { OnRefused result (Rose self.old.failed_writes self.new.failed_writes) }
-        ensures raised { RaisedAtFault self.old.failed_writes self.new.failed_writes result }
+        ensures only { OnlyWrites name.now (seen_files self.old) (seen_files self.new) }
+        ensures quiet { OnOk result ((seen_files self.new).write_faults ≡ (seen_files self.old).write_faults) }
+        ensures fault { OnRefused result (Rose (seen_files self.old).write_faults (seen_files self.new).write_faults) }
+        ensures memory { OnMemory result (seen_files self.new ≡ seen_files self.old) }
+        ensures raised { RaisedAtFault (seen_files self.old).write_faults (seen_files self.new).write_faults result }
     {
         match save(&self.rt, name, bytes) {
             Ok(()) => Ok(()),
@@ -108,75 +111,5 @@ impl<R: Files + Drop> Shelf for FileShelf<R> {
                 Err(Fail::Refused(fault))
             }
         }
-    }
-}
-
-#[cfg(test)]
-mod tests {
-    use super::*;
-    use std::process;
-    use std::test::Fail as Failed;
-
-    fn shown(answer: &Result<ReadEnd, Fail<ShelfFault>>) -> &'static str {
-        match answer {
-            Ok(ReadEnd::Whole(_)) => "whole",
-            Ok(ReadEnd::TooLong) => "too long",
-            Err(Fail::Memory) => "no memory",
-            Err(Fail::Refused(_)) => "fault",
-        }
-    }
-
-    #[test]
-    fn what_is_no_file_is_a_counted_fault(rt: HostRuntime) -> Result<(), Failed> {
-        let mut shelf = FileShelf::new(rt, rt.alloc());
-        let cases: [(&[u8], &str, u64); 7] = [
-            (b"/dev/null", "whole", 0),
-            (b"/dev/zero", "too long", 0),
-            (b"/", "fault", 1),
-            (b"/proc/self/mem", "fault", 2),
-            (b"/no/such/file", "fault", 3),
-            (b"/dev/null\xff", "fault", 4),
-            (b"", "fault", 5),
-        ];
-        for (name, want, faults) in cases {
-            let name = Text::from_slice(rt.alloc(), name)?;
-            assert_eq!(rt; shown(&shelf.read(&name, 10_000)), want);
-            assert_eq!(rt; shelf.read_faults(), faults);
-        }
-        Ok(())
-    }
-
-    #[test]
-    fn a_file_that_takes_nothing_is_a_counted_fault(rt: HostRuntime) -> Result<(), Failed> {
-        let mut shelf = FileShelf::new(rt, rt.alloc());
-        let cases: [(&[u8], bool, u64); 3] = [
-            (b"/dev/null", true, 0),
-            (b"/dev/full", false, 1),
-            (b"/", false, 2),
-        ];
-        for (name, goes_well, faults) in cases {
-            let name = Text::from_slice(rt.alloc(), name)?;
-            assert_eq!(rt; shelf.write(&name, b"text").is_ok(), goes_well);
-            assert_eq!(rt; shelf.write_faults(), faults);
-        }
-        Ok(())
-    }
-
-    #[test]
-    fn a_long_file_comes_back_whole(rt: HostRuntime) -> Result<(), Failed> {
-        let mut shelf = FileShelf::new(rt, rt.alloc());
-        let path = format!(in rt.alloc(); "/tmp/long_file_{}", process::id(rt.process()))?;
-        let name = Text::from_slice(rt.alloc(), path.as_bytes())?;
-        let bytes = [7u8; 10_000];
-        assert!(rt; shelf.write(&name, &bytes).is_ok());
-        let whole = shelf.read(&name, 10_000);
-        let longer = shelf.read(&name, 9_999);
-        std::fs::remove_file(&rt, path.as_str())?;
-        assert_eq!(rt; shown(&longer), "too long");
-        match whole {
-            Ok(ReadEnd::Whole(text)) => assert_eq!(rt; text.as_slice(), bytes.as_slice()),
-            _ => assert!(rt; false, "not whole"),
-        }
-        Ok(())
     }
 }

@@ -1,6 +1,6 @@
 //! Shelves of named files, sinks of bytes and the gate of the units.
-//! `specs/Edge.antt` says what their counts of faults and their calls tell, `specs/MemoryShelf.antt` and
-//! `specs/MemorySink.antt` what those in memory do besides. Of the system's files and streams nothing is told.
+//! `specs/Fault.antt`, `specs/Sink.antt` and `specs/Shelf.antt` say what their clauses see of them,
+//! `specs/MemoryShelf.antt` and `specs/MemorySink.antt` what those in memory do besides. Of the system's files and streams nothing is told.
 #![tactic(auto)]
 
 mod count;

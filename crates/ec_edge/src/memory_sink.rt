@@ -1,7 +1,9 @@
 //! A sink in memory, whose listed calls fail.
-ghost use Rattle.std.specs.Prelude.{OnOk, ◌≡◌, ◌≤◌, [], Some};
-ghost use Rattle.ec_edge.specs.Edge.{OnMemory, PutPart, RaisedAtFault, raised};
-ghost use Rattle.ec_edge.specs.MemorySink.{PutAsListed, fault_after};
+ghost use Rattle.std.specs.Prelude.{OnOk, ◌≡◌, ◌≤◌, Some};
+ghost use Rattle.ec_base.specs.Answers.{OnRefused};
+ghost use Rattle.ec_edge.specs.Fault.{OnMemory, RaisedAtFault};
+ghost use Rattle.ec_edge.specs.MemorySink.{IsCounted, IsNew, PutsAs, next_fault, seen_sink};
+ghost use Rattle.ec_edge.specs.Sink.{Breaks, Takes};
 
 use crate::count::raised;
 use crate::ends::SinkFault;
@@ -21,7 +23,7 @@ pub struct MemSink {
 impl MemSink {
     /// The puts are counted from 1. Each `(call, bytes)` of `fails` makes that call fail after so many bytes.
     pub fn new(alloc: Global, fails: List<(u64, u64)>) -> MemSink
-        ensures { result ≡ record { bytes = []; fails = fails; calls = 0; faults = 0 } }
+        ensures { IsNew fails result }
     {
         MemSink {
             bytes: Text::from_vec(Vec::new(alloc)),
@@ -32,17 +34,18 @@ impl MemSink {
     }
 
     pub fn bytes(&self) -> &[u8]
-        ensures { ⟦<MemSink as Sink>⟧.written self.now ≡ Some result.now }
+        ensures { (seen_sink self.now).written ≡ Some result.now }
     {
         self.bytes.as_slice()
     }
 
-    /// After how many bytes the call that goes on now fails, if it does.
-    fn fault(&self) -> Option<u64>
-        ensures { result ≡ fault_after self.now.calls self.now.fails }
+    /// After how many bytes the next call fails, if it does.
+    fn next_fault(&self) -> Option<u64>
+        ensures { result ≡ next_fault self.now }
     {
+        let next = raised(self.calls);
         for &(call, bytes) in self.fails.as_slice() {
-            if call == self.calls {
+            if call == next {
                 return Some(bytes);
             }
         }
@@ -51,56 +54,34 @@ impl MemSink {
 }
 
 impl Sink for MemSink {
-    ghost written = { λ s. Some s.bytes };
+    ghost use Rattle.ec_edge.specs.MemorySink.{seen_sink};
 
-    ghost count = { λ s. s.faults };
+    ghost has = { seen_sink };
 
     fn faults(&self) -> u64 {
         self.faults
     }
 
     fn put(&mut self, bytes: &[u8]) -> Result<(), Fail<SinkFault>>
-        ensures quiet { OnOk result (self.new.faults ≡ self.old.faults) }
-        ensures counts { self.old.faults ≤ self.new.faults }
-        ensures puts { PutPart (Some self.old.bytes) bytes.now (Some self.new.bytes) self.old.faults self.new.faults result }
-        ensures memory { OnMemory result (self.new.faults ≡ self.old.faults) }
-        ensures calls { self.new.calls ≡ raised self.old.calls }
-        ensures listed { self.new.fails ≡ self.old.fails }
-        ensures exact { PutAsListed (fault_after self.new.calls self.old.fails) self.old.bytes bytes.now self.new.bytes result }
-        ensures raised { RaisedAtFault self.old.faults self.new.faults result }
+        ensures counts { (seen_sink self.old).faults ≤ (seen_sink self.new).faults }
+        ensures ok { OnOk result (Takes bytes.now (seen_sink self.old) (seen_sink self.new)) }
+        ensures fault { OnRefused result (Breaks bytes.now (seen_sink self.old) (seen_sink self.new)) }
+        ensures memory { OnMemory result (self.new ≡ self.old) }
+        ensures exact { PutsAs self.old bytes.now self.new result }
+        ensures counted { OnOk result (IsCounted self.old self.new) }
+        ensures counted_fault { OnRefused result (IsCounted self.old self.new) }
+        ensures raised { RaisedAtFault (seen_sink self.old).faults (seen_sink self.new).faults result }
     {
-        self.calls = raised(self.calls);
-        let Some(most) = self.fault() else {
-            self.bytes.append(bytes)?;
-            return Ok(());
+        let fault = self.next_fault();
+        let part = match fault {
+            Some(most) => bytes.len().min(most as usize),
+            None => bytes.len(),
         };
-        let part = bytes.len().min(most as usize);
         self.bytes.append(&bytes[..part])?;
-        self.faults = raised(self.faults);
-        Err(Fail::Refused(SinkFault))
-    }
-}
-
-#[cfg(test)]
-mod tests {
-    use super::*;
-    use std::test::Fail;
-
-    #[test]
-    fn listed_puts_fail_after_their_bytes(rt: HostRuntime) -> Result<(), Fail> {
-        let fails = List::from_slice(rt.alloc(), &[(2, 2), (4, 9)])?;
-        let mut sink = MemSink::new(rt.alloc(), fails);
-        let cases: [(&[u8], bool, &[u8], u64); 5] = [
-            (b"ab", true, b"ab", 0),
-            (b"cdef", false, b"abcd", 1),
-            (b"", true, b"abcd", 1),
-            (b"gh", false, b"abcdgh", 2),
-            (b"i", true, b"abcdghi", 2),
-        ];
-        for (piece, goes_well, written, faults) in cases {
-            assert_eq!(rt; sink.put(piece).is_ok(), goes_well);
-            assert_eq!(rt; sink.bytes(), written);
-            assert_eq!(rt; sink.faults(), faults);
+        self.calls = raised(self.calls);
+        if fault.is_some() {
+            self.faults = raised(self.faults);
+            return Err(Fail::Refused(SinkFault));
         }
         Ok(())
     }

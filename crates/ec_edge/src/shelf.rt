@@ -1,43 +1,41 @@
 //! Named files.
-ghost use Rattle.std.specs.Prelude.{◌≡◌, ◌≤◌};
+ghost use Rattle.std.specs.Prelude.{◌≡◌, IfOk, OnOk};
 ghost use Rattle.ec_base.specs.Answers.{OnRefused};
-ghost use Rattle.ec_edge.specs.Edge.{OnMemory, Rose, told_read, told_write};
+ghost use Rattle.ec_edge.specs.Fault.{OnMemory, Rose};
+ghost use Rattle.ec_edge.specs.Shelf.{Gives, IsMade, OnlyReads, OnlyWrites, untold};
 
 use crate::ends::{ReadEnd, ShelfFault};
 use ec_base::{Fail, Text};
 
-/// Keeps named files. It may leave untold what they hold.
+/// Keeps named files. It may leave untold what they hold, and whether there are any.
 pub trait Shelf {
-    ghost use Rattle.std.specs.Prelude.{ℕ, List, Option};
+    ghost use Rattle.ec_edge.specs.Shelf.{SeenShelf};
 
-    /// What the file of this name holds, where it is told.
-    ghost content: { Self → List ℕ → Option (List ℕ) };
-
-    ghost read_count: { Self → ℕ };
-
-    ghost write_count: { Self → ℕ };
+    /// What it tells of each name, and its counts of faults.
+    ghost has: { Self → SeenShelf };
 
     /// How many reads failed.
     fn read_faults(&self) -> u64
-        ensures { result ≡ read_count self.now };
+        ensures { result ≡ (has self.now).read_faults };
 
     /// How many writes failed.
     fn write_faults(&self) -> u64
-        ensures { result ≡ write_count self.now };
+        ensures { result ≡ (has self.now).write_faults };
 
-    /// Reads the whole file, if it has at most this many bytes.
+    /// Reads the whole file, if it has at most this many bytes. A missing file is a counted fault.
     fn read(&mut self, name: &Text, most: u64) -> Result<ReadEnd, Fail<ShelfFault>>
-        ensures counts { (read_count self.old ≤ read_count self.new) × (write_count self.new ≡ write_count self.old) }
-        ensures stays { (n : List ℕ) → content self.new n ≡ content self.old n }
-        ensures reads { (bytes : List ℕ) → content self.old name.now ≡ Some bytes → told_read bytes most result }
-        ensures fault { OnRefused result (Rose (read_count self.old) (read_count self.new)) }
-        ensures memory { OnMemory result (read_count self.new ≡ read_count self.old) };
+        ensures only { OnlyReads (has self.old) (has self.new) }
+        ensures ok { IfOk result (Gives ((has self.old).told name.now) most) }
+        ensures quiet { OnOk result ((has self.new).read_faults ≡ (has self.old).read_faults) }
+        ensures fault { OnRefused result (Rose (has self.old).read_faults (has self.new).read_faults) }
+        ensures memory { OnMemory result (has self.new ≡ has self.old) };
 
-    /// Makes these bytes the whole file.
+    /// Makes these bytes the whole file. After a fault nothing is told of it.
     fn write(&mut self, name: &Text, bytes: &[u8]) -> Result<(), Fail<ShelfFault>>
-        ensures counts { (write_count self.old ≤ write_count self.new) × (read_count self.new ≡ read_count self.old) }
-        ensures others { (n : List ℕ) → ¬ (n ≡ name.now) → content self.new n ≡ content self.old n }
-        ensures writes { told_write (content self.old name.now) (content self.new name.now) bytes.now result }
-        ensures fault { OnRefused result (Rose (write_count self.old) (write_count self.new)) }
-        ensures memory { OnMemory result (write_count self.new ≡ write_count self.old) };
+        ensures only { OnlyWrites name.now (has self.old) (has self.new) }
+        ensures ok { OnOk result (IsMade name.now bytes.now (has self.old) (has self.new)) }
+        ensures quiet { OnOk result ((has self.new).write_faults ≡ (has self.old).write_faults) }
+        ensures fault { OnRefused result (Rose (has self.old).write_faults (has self.new).write_faults) }
+        ensures lost { OnRefused result ((has self.new).told name.now ≡ untold) }
+        ensures memory { OnMemory result (has self.new ≡ has self.old) };
 }

@@ -1,7 +1,9 @@
 //! The standard output and error.
 ghost use Rattle.std.specs.Prelude.{OnOk, ◌≡◌, ◌≤◌, [], IsOk};
 ghost use Rattle.ec_base.specs.Answers.{OnRefused};
-ghost use Rattle.ec_edge.specs.Edge.{RaisedAtFault, Rose};
+ghost use Rattle.ec_edge.specs.Fault.{OnMemory, RaisedAtFault};
+ghost use Rattle.ec_edge.specs.Files.{seen_stream, which_of};
+ghost use Rattle.ec_edge.specs.Sink.{Breaks, Takes};
 
 use crate::count::raised;
 use crate::ends::SinkFault;
@@ -29,8 +31,8 @@ pub struct StdSink {
 
 impl StdSink {
     pub fn new(rt: &HostRuntime, which: Std) -> StdSink
-        ensures which { result.which ≡ which }
-        ensures count { result.faults ≡ 0 }
+        ensures which { which_of result ≡ which }
+        ensures faults { (seen_stream result).faults ≡ 0 }
     {
         StdSink {
             out: rt.stdout(),
@@ -42,7 +44,7 @@ impl StdSink {
 
     fn send(&mut self, bytes: &[u8]) -> io::Result<()>
         ensures nothing { bytes.now ≡ [] → IsOk result }
-        ensures faults { self.new.faults ≡ self.old.faults }
+        ensures faults { (seen_stream self.new).faults ≡ (seen_stream self.old).faults }
     {
         match self.which {
             Std::Out => send(&mut self.out, bytes),
@@ -52,11 +54,9 @@ impl StdSink {
 }
 
 impl Sink for StdSink {
-    ghost use Rattle.std.specs.Prelude.{None};
+    ghost use Rattle.ec_edge.specs.Files.{seen_stream};
 
-    ghost written = { λ s. None };
-
-    ghost count = { λ s. s.faults };
+    ghost has = { seen_stream };
 
     fn faults(&self) -> u64 {
         self.faults
@@ -64,29 +64,16 @@ impl Sink for StdSink {
 
     fn put(&mut self, bytes: &[u8]) -> Result<(), Fail<SinkFault>>
         ensures nothing { bytes.now ≡ [] → IsOk result }
-        ensures quiet { OnOk result (self.new.faults ≡ self.old.faults) }
-        ensures counts { self.old.faults ≤ self.new.faults }
-        ensures fault { OnRefused result (Rose self.old.faults self.new.faults) }
-        ensures raised { RaisedAtFault self.old.faults self.new.faults result }
+        ensures counts { (seen_stream self.old).faults ≤ (seen_stream self.new).faults }
+        ensures ok { OnOk result (Takes bytes.now (seen_stream self.old) (seen_stream self.new)) }
+        ensures fault { OnRefused result (Breaks bytes.now (seen_stream self.old) (seen_stream self.new)) }
+        ensures memory { OnMemory result (seen_stream self.new ≡ seen_stream self.old) }
+        ensures raised { RaisedAtFault (seen_stream self.old).faults (seen_stream self.new).faults result }
     {
         if self.send(bytes).is_ok() {
             return Ok(());
         }
         self.faults = raised(self.faults);
         Err(Fail::Refused(SinkFault))
-    }
-}
-
-#[cfg(test)]
-mod tests {
-    use super::*;
-
-    #[test]
-    fn both_streams_take_bytes(rt: HostRuntime) {
-        for which in [Std::Out, Std::Err] {
-            let mut sink = StdSink::new(&rt, which);
-            assert!(rt; sink.put(b"taken\n").is_ok());
-            assert_eq!(rt; sink.faults(), 0);
-        }
     }
 }

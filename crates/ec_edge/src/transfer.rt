@@ -1,7 +1,8 @@
 //! All bytes of a reader or to a writer, in as many calls as it takes.
-ghost use Rattle.std.specs.Prelude.{◌≡◌, ◌≤◌, ℕ, List, [], IsOk, length, take, Some, MatchResult};
+ghost use Rattle.std.specs.Prelude.{◌≡◌, ℕ, List, [], IfOk, IsOk, OnErr, OnOk, Some};
 ghost use Rattle.std.specs.Io.KnownBytes.{Appends};
-ghost use Rattle.ec_edge.specs.Edge.{told_read};
+ghost use Rattle.ec_edge.specs.Shelf.{Gives, holds};
+ghost use Rattle.ec_edge.specs.Sink.{AppendsPart};
 
 use crate::ends::ReadEnd;
 use ec_base::{Fail, Text};
@@ -13,7 +14,8 @@ use std::io::{ErrorKind, Read, Write};
 #[tactic(auto, using(crate::proofs::Pieces::sent_more))]
 pub fn send<W: Write>(to: &mut W, bytes: &[u8]) -> io::Result<()>
     ensures nothing { bytes.now ≡ [] → IsOk result }
-    ensures sent { MatchResult result (λ _. Appends (W.contents to.old) (W.contents to.new) bytes.now) (λ _. (k : ℕ) × (k ≤ length bytes.now) × Appends (W.contents to.old) (W.contents to.new) (take k bytes.now)) }
+    ensures ok { OnOk result (Appends (W.contents to.old) (W.contents to.new) bytes.now) }
+    ensures err { OnErr result (AppendsPart (W.contents to.old) (W.contents to.new) bytes.now) }
 {
     let mut done = 0;
     while done < bytes.len() {
@@ -28,7 +30,7 @@ pub fn send<W: Write>(to: &mut W, bytes: &[u8]) -> io::Result<()>
 
 /// Reads to the end, or until there are more than the most bytes.
 pub fn receive<R: Read>(alloc: Global, from: &mut R, most: u64) -> Result<ReadEnd, Fail<io::Error>>
-    ensures { (bytes : List ℕ) → R.remaining from.old ≡ Some bytes → told_read bytes most result }
+    ensures { (bytes : List ℕ) → R.remaining from.old ≡ Some bytes → IfOk result (Gives (holds bytes) most) }
 {
     let mut held = Vec::new(alloc);
     let mut piece = [0u8; 4096];

@@ -2,8 +2,8 @@
 #![tactic(auto)]
 
 use ec_base::Text;
-use ec_driver::{Status, earthc};
-use ec_edge::{FileShelf, FreeGate, Sink, Std, StdSink};
+use ec_driver::{Status, earthc, stop};
+use ec_edge::{FileShelf, FreeGate, Std, StdSink};
 use std::env;
 use std::io::ErrorKind;
 use std::process::ExitCode;
@@ -35,23 +35,21 @@ fn run(rt: &HostRuntime, words: &[Text]) -> Status {
     report.status
 }
 
-/// Says that there are no words to hand on, and answers the status.
-fn stop(rt: &HostRuntime, status: Status) -> Status {
-    let line: &[u8] = match status {
-        Status::NoMemory => b"no memory\n",
-        _ => b"words refused\n",
-    };
+/// Says that there are no words to go by, and answers the status.
+fn stop_short(rt: &HostRuntime, status: Status) -> Status {
+    let mut out = StdSink::new(rt, Std::Out);
     let mut err = StdSink::new(rt, Std::Err);
-    match err.put(line) {
-        Ok(()) => status,
-        Err(_) => Status::WriteFault,
-    }
+    let why = match status {
+        Status::NoMemory => Status::NoMemory,
+        _ => Status::WordsRefused,
+    };
+    stop(rt.alloc(), &mut out, &mut err, why).status
 }
 
 fn main(rt: HostRuntime) -> ExitCode {
     let status = match words(&rt) {
         Ok(words) => run(&rt, words.as_slice()),
-        Err(status) => stop(&rt, status),
+        Err(status) => stop_short(&rt, status),
     };
     ExitCode::from(status.number())
 }

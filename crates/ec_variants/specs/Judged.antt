@@ -5,7 +5,7 @@ use Rattle.ec_base.specs.declared.token.Token.{Token}
 use Rattle.ec_lex.specs.Tokens.{Cuts}
 use Rattle.ec_print.specs.Canonical.{canonical}
 use Rattle.ec_syntax.specs.declared.item.Program.{Program}
-use Rattle.ec_syntax.specs.Reading.{Reads}
+use Rattle.ec_syntax.specs.Grammar.Reading.{Reads}
 
 -- the text has these tokens, which are this program
 abbrev pub Parses : List ℕ → List Token → Program → Type 0

@@ -55,7 +55,7 @@ struct Parsed {
 
 /// The tokens of a text and the tree of its program, or why it has none.
 fn parse(alloc: Global, text: &[u8]) -> Result<Parsed, Fail<Refusal>>
-    requires { length text.now ≤ 1048576 }
+    requires { length text.now ≤ MAX_SOURCE }
     ensures { IfOk result (λ p. Parses text.now p.tokens p.tree) }
 {
     let tokens = match lex(alloc, text) {
@@ -104,7 +104,7 @@ fn see_printed(alloc: Global, tree: &Program) -> Result<(), Fail<Flaw>>
     ensures { OnOk result (PrintsAsItIs (canonical tree.now)) }
 {
     let text = print(alloc, tree)?;
-    if text.len() > MAX_SOURCE {
+    if text.len() > MAX_SOURCE as usize {
         return Err(Fail::Refused(Flaw::TooLong));
     }
     match parse(alloc, text.as_slice()) {
@@ -135,7 +135,7 @@ fn extent(alloc: Global, tokens: &[Token], count: usize) -> Result<Verdict, Fail
 pub fn judge(alloc: Global, text: &[u8]) -> Result<Verdict, Fail<Flaw>>
     ensures { IfOk result (λ v. v ≢ Verdict.Refused → IsProgram text.now) }
 {
-    if text.len() > MAX_SOURCE {
+    if text.len() > MAX_SOURCE as usize {
         return Err(Fail::Refused(Flaw::TooLong));
     }
     match parse(alloc, text) {

@@ -17,12 +17,12 @@ use std::{env, io};
 
 /// The bytes of a file, or why there are none.
 fn fetch(rt: &HostRuntime, name: &str) -> Result<Text, Fail<Flaw>>
-    ensures { IfOk result (λ text. length text ≤ 1048576) }
+    ensures { IfOk result (λ text. length text ≤ MAX_SOURCE) }
 {
     let alloc = rt.alloc();
     let name = Text::from_slice(alloc, name.as_bytes())?;
     match FileShelf::new(rt, alloc).read(&name, MAX_SOURCE as u64) {
-        Ok(ReadEnd::Whole(text)) if text.len() <= MAX_SOURCE => Ok(text),
+        Ok(ReadEnd::Whole(text)) if text.len() <= MAX_SOURCE as usize => Ok(text),
         Ok(_) => Err(Fail::Refused(Flaw::TooLong)),
         Err(Fail::Memory) => Err(Fail::Memory),
         Err(Fail::Refused(_)) => Err(Fail::Refused(Flaw::NoFile)),

@@ -3,7 +3,7 @@ ghost use Rattle.std.specs.Prelude.{◌≡◌, ◌<◌, ◌≤◌, ◌+◌, ◌*
 
 use crate::judge::{Flaw, Verdict, judge};
 use crate::variant::replaced;
-use ec_base::Fail;
+use ec_base::{Fail, MAX_SOURCE};
 use std::alloc::Global;
 
 /// What each byte is replaced by: bytes that open, close and part things of each kind, and one that begins no token.
@@ -53,7 +53,7 @@ impl Tally {
 
 /// Judges the text, each beginning of it, and it with each byte left out or replaced.
 pub fn tally_of(alloc: Global, text: &[u8]) -> Result<Tally, Fail<Flaw>>
-    requires { length text.now ≤ 1048576 }
+    requires { length text.now ≤ MAX_SOURCE }
     ensures { IfOk result (λ t. t.texts ≡ 14 * length text.now + 1) }
 {
     let mut tally = Tally {
