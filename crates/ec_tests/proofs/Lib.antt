@@ -1,0 +1,2 @@
+-- what the tests' examples rest on
+pub mod Example
