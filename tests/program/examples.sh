@@ -1,5 +1,5 @@
 # shellcheck shell=sh
-# The examples, and the launcher.
+# The examples.
 
 # ---- examples
 
@@ -31,14 +31,3 @@ for file in "$top"/examples/*.ec; do
 done
 cmp "$top/examples/answer.ec" "$top/crates/ec_main/data/answer.ec" >"$out" 2>&1
 judge 'the copy that is run' 0 '' ''
-
-# ---- the launcher's own words
-
-status=0; "$top/earthc" --help >page 2>"$err" </dev/null || status=$?
-head -n 1 page >"$out"
-judge 'the page of help' 0 'usage: earthc COMMAND FILE\n' ''
-for word in BadByte BadNumber OpenComment OpenString BadEscape HashLine TooLong NotYet Expected TooDeep TooMany accepted \
-    print 'words refused'; do
-    grep -F -o -- "$word" page | head -n 1 >"$out"
-    judge "help on $word" 0 "$word\n" ''
-done

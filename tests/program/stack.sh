@@ -1,13 +1,13 @@
 # shellcheck shell=sh
 # The deepest nesting and the longest chains under a small stack.
 
-# slim NAME SOURCE: the source is read, printed and dropped with a stack of 2 MiB
+# slim NAME SOURCE: the source is read, printed and dropped with a stack of 1 MiB
 slim() {
     printf '%s' "$2" >case.ec
     for command in print check; do
         status=0
         # shellcheck disable=SC3045 # dash and bash have it
-        (ulimit -s 2048 && exec "$program" "$command" case.ec) >"$out" 2>"$err" </dev/null || status=$?
+        (ulimit -s 1024 && exec "$program" "$command" case.ec) >"$out" 2>"$err" </dev/null || status=$?
         case $command,$status in
             print,0 | check,0) : ;;
             check,2) grep -q '^refused 9 ' "$err" && status=0 && : >"$err" ;;
