@@ -3,8 +3,9 @@
 # 128 KiB up to the limit, the seconds (the median of five runs), their ratio to the length before, and the peak of memory.
 # To be run by hand, on a machine that does nothing else.
 #
-# Expected: twice the length takes about twice as long. At 1,024 KiB the first three kinds take less than a second and
-# 500 MB; the last two, whose every byte or two is a statement, at most 1,500 MB.
+# Expected: twice the length takes about twice as long. At 1,024 KiB each kind takes less than a second and 250 MB: mostly
+# the time of `gcc -fsyntax-only` on the same text, but up to 1.6 times in deep parentheses, and 2 to 5 times its memory.
+# The tokens of the whole text are held beside its tree.
 # shellcheck disable=SC1091
 . "$(dirname "$0")/program.sh"
 
