@@ -14,3 +14,9 @@ abbrev pub OnRefused : {T R : Type 0} → Result T (Fail R) → Type 0 → Type 
 OnRefused (Ok v) P = Unit {0}
 OnRefused (Err (Refused r)) P = P
 OnRefused (Err Memory) P = Unit {0}
+
+-- the refusal, where the call refuses, is such
+abbrev pub IfRefused : {T R : Type 0} → Result T (Fail R) → (R → Type 0) → Type 0
+IfRefused (Ok v) P = Unit {0}
+IfRefused (Err (Refused r)) P = P r
+IfRefused (Err Memory) P = Unit {0}

@@ -1,5 +1,5 @@
 -- What `printf` writes: its string with each `%d` and `%ld` replaced by the next value and each `%%` by `%`.
-use Rattle.std.specs.Prelude.{ℕ, suc, ◌==◌, if◌then◌else◌, List, [], ◌∷◌, ◌++◌, Option, Some, None, ℤ}
+use Rattle.std.specs.Prelude.{◌≡◌, ℕ, suc, ◌==◌, if◌then◌else◌, List, [], ◌∷◌, ◌++◌, Option, Some, None, ℤ}
 use Rattle.std.specs.Fmt.{signed_decimal}
 use Rattle.ec_base.specs.declared.format.Place.{Place}
 use Rattle.ec_base.specs.declared.format.Place.TheVariants as place
@@ -10,7 +10,9 @@ use Rattle.ec_base.specs.declared.format.Effect.TheVariants as effect
 abbrev pub after_percent : ℕ → Place × Effect
 after_percent c =
     if c == 37 then (place.Plain, effect.Byte 37)
-    else (if c == 100 then (place.Plain, effect.Convert) else (if c == 108 then (place.Long, effect.Silent) else (place.Plain, effect.Bad)))
+    else (if c == 100 then (place.Plain, effect.Convert)
+    else (if c == 108 then (place.Long, effect.Silent)
+    else (place.Plain, effect.Bad)))
 
 -- where the byte after this one stands, and what this one does
 abbrev pub step : Place → ℕ → Place × Effect
@@ -27,6 +29,10 @@ written (effect.Byte b) vs rest = b ∷ rest vs
 written effect.Convert [] rest = rest []
 written effect.Convert (v ∷ vs) rest = signed_decimal v ++ rest vs
 written effect.Bad vs rest = rest vs
+
+-- Writing an effect takes a text and values to these: with any rest still to write, both come to the same.
+abbrev pub IsWritten : Effect → (before : List ℕ) → (vs : List ℤ) → (after : List ℕ) → (left : List ℤ) → Type 0
+IsWritten effect before vs after left = (rest : List ℤ → List ℕ) → before ++ written effect vs rest ≡ after ++ rest left
 
 abbrev pub formatted_from : Place → List ℕ → List ℤ → List ℕ
 formatted_from at [] vs = []

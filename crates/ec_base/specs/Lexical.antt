@@ -43,8 +43,8 @@ abbrev pub is_end : TokenKind → Bool
 is_end t.End = true
 is_end _ = false
 
--- Tokens that begin at this place or later, each at or behind the end of the one before it. The last, and no other, is the
--- end of the text, and has no bytes.
+-- Tokens that begin at this place or later, each at or behind the end of the one before it. The last, and no other, is
+-- the end of the text, and has no bytes.
 pub data Rises : ℕ → List Token → Type 0 where
   last : {from : ℕ} {x : Token} → is_end x.kind ≡ true → from ≤ x.at.from → x.at.to ≡ x.at.from → Rises from (x ∷ [])
   next : {from : ℕ} {x : Token} {rest : List Token} →

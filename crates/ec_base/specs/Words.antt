@@ -14,6 +14,6 @@ is_among w (x ∷ xs) = if same w x then true else is_among w xs
 -- the words that name nothing of a program's own
 abbrev pub reserved : List (List ℕ)
 reserved = codes "int" ∷ codes "void" ∷ codes "struct" ∷ codes "if" ∷ codes "else" ∷ codes "while" ∷ codes "for"
-    ∷ codes "forall" ∷ codes "return" ∷ codes "local" ∷ codes "shared" ∷ codes "malloc" ∷ codes "sizeof" ∷ codes "printf"
-    ∷ codes "NULL" ∷ codes "writeto" ∷ codes "addto" ∷ codes "valueof" ∷ codes "OWNER_OF" ∷ codes "HOME" ∷ codes "NODE"
-    ∷ codes "ANYWHERE" ∷ []
+    ∷ codes "forall" ∷ codes "return" ∷ codes "local" ∷ codes "shared" ∷ codes "malloc" ∷ codes "sizeof"
+    ∷ codes "printf" ∷ codes "NULL" ∷ codes "writeto" ∷ codes "addto" ∷ codes "valueof" ∷ codes "OWNER_OF"
+    ∷ codes "HOME" ∷ codes "NODE" ∷ codes "ANYWHERE" ∷ []

@@ -9,8 +9,10 @@ pub data Writes : List ℕ → List ℤ → List ℕ → Type 0 where
   done : Writes [] [] []
   byte : {c : ℕ} {s t : List ℕ} {vs : List ℤ} → c ≢ 37 → Writes s vs t → Writes (c ∷ s) vs (c ∷ t)
   percent : {s t : List ℕ} {vs : List ℤ} → Writes s vs t → Writes (codes "%%" ++ s) vs (codes "%" ++ t)
-  number : {s t : List ℕ} {v : ℤ} {vs : List ℤ} → Writes s vs t → Writes (codes "%d" ++ s) (v ∷ vs) (signed_decimal v ++ t)
-  long : {s t : List ℕ} {v : ℤ} {vs : List ℤ} → Writes s vs t → Writes (codes "%ld" ++ s) (v ∷ vs) (signed_decimal v ++ t)
+  number : {s t : List ℕ} {v : ℤ} {vs : List ℤ}
+      → Writes s vs t → Writes (codes "%d" ++ s) (v ∷ vs) (signed_decimal v ++ t)
+  long : {s t : List ℕ} {v : ℤ} {vs : List ℤ}
+      → Writes s vs t → Writes (codes "%ld" ++ s) (v ∷ vs) (signed_decimal v ++ t)
 
 -- a string that asks for so many values writes them
 abbrev pub StringsWrite : Type 0

@@ -1,6 +1,6 @@
 //! What `printf` writes.
-ghost use Rattle.std.specs.Prelude.{◌≡◌, ◌≤◌, ◌<◌, ◌^◌, ◌++◌, ℕ, ℤ, List, length, drop, IfOk};
-ghost use Rattle.ec_base.specs.Format.{conversions, formatted, step, written};
+ghost use Rattle.std.specs.Prelude.{◌≡◌, ◌≤◌, ◌<◌, ◌^◌, length, drop, IfOk};
+ghost use Rattle.ec_base.specs.Format.{IsWritten, conversions, formatted, step};
 
 use crate::text::Text;
 use itoa::Buffer;
@@ -80,7 +80,7 @@ fn write_effect(
 ) -> Result<usize, AllocError>
     requires { next ≤ length values.now }
     ensures within { IfOk result (λ n. n ≤ length values.now) }
-    ensures wrote { IfOk result (λ n. (rest : List ℤ → List ℕ) → out.old ++ written effect (drop next values.now) rest ≡ out.new ++ rest (drop n values.now)) }
+    ensures wrote { IfOk result (λ n. IsWritten effect out.old (drop next values.now) out.new (drop n values.now)) }
 {
     match effect {
         Effect::Silent => Ok(next),

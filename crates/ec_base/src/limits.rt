@@ -12,6 +12,12 @@ pub const MAX_FUNCTIONS: u32 = 4_096;
 /// The structs of a program.
 pub const MAX_STRUCTS: u32 = 256;
 
+/// The cells of a struct.
+pub const MAX_STRUCT_CELLS: u32 = 64;
+
+/// The elements of an array in a struct.
+pub const MAX_ARRAY: u32 = 64;
+
 /// The parameters of a function.
 pub const MAX_PARAMETERS: u32 = 8;
 

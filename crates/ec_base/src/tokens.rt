@@ -6,8 +6,8 @@ use crate::token::Token;
 use sqlite_items::Items;
 use std::marker::Model;
 
-/// The tokens of a text: at most one a byte and one, with rising spans, each of a form that a text can give; the last one, and no
-/// other, is the end. Contracts see their list.
+/// The tokens of a text: at most one a byte and one, with rising spans, each of a form that a text can give; the last
+/// one, and no other, is the end. Contracts see their list.
 #[derive(Drop)]
 pub struct Tokens {
     list: Items<Token>,

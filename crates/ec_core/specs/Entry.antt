@@ -33,11 +33,18 @@ frame_for f c = record {
 abbrev pub takes : Function → Call → Bool
 takes f c = (length c.args == f.params) && (length c.cells == f.results)
 
+-- a frame more, for the call
+abbrev pub with_frame : Function → Call → Exec → Exec
+with_frame f c s = record s { frames = s.frames ++ frame_for f c ∷ [] }
+
 -- a frame more, and its first fiber
 abbrev pub entered : Code → ℕ → Call → Option Function → Exec → Exec
 entered code me c None s = s
-entered code me c (Some f) s =
-    if takes f c then runs_fiber code me (length s.frames) 0 (record s { frames = s.frames ++ frame_for f c ∷ [] }) else s
+entered code me c (Some f) s = if takes f c then runs_fiber code me (length s.frames) 0 (with_frame f c s) else s
+
+-- the function that the call names is entered, where there is one
+abbrev pub called : Code → ℕ → Call → Exec → Exec
+called code me c s = entered code me c (slice_get code.functions c.function) s
 
 -- ---- answers
 
@@ -53,7 +60,7 @@ lives n s = is_live (slice_get s.frames n)
 
 abbrev pub entry : Code → ℕ → Entry → Exec → Exec
 entry code me (e.Start frame fiber slot filling) s = runs_fiber code me frame fiber s
-entry code me (e.Enter call) s = entered code me call (slice_get code.functions call.function) s
+entry code me (e.Enter call) s = called code me call s
 entry code me (e.Fill frame slot cells values) s =
     if lives frame s then says (m.Sync me frame slot) (put_all frame cells values s) else s
 entry code me (e.Print bytes back) s =

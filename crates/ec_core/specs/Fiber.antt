@@ -104,6 +104,10 @@ abbrev pub answers : Option Message → ℕ → Exec → Exec
 answers None n s = s
 answers (Some answer) n s = end_frame n (says (m.EndFrame n) (says answer s))
 
+-- the frame answers with what these cells hold
+abbrev pub ends_function : ℕ → List ℕ → Exec → Exec
+ends_function n cells s = answers (answer_of (caller_of n s) (cells_at n cells s)) n s
+
 -- ---- one instruction
 
 -- what one instruction of frame n does on node me
@@ -115,7 +119,7 @@ one me n (i.Sub d a b) s = put n d (v.Int (int_wrapping_sub w64 (int_at n a s) (
 one me n (i.Mul d a b) s = put n d (v.Int (int_wrapping_mul w64 (int_at n a s) (int_at n b s))) s
 one me n (i.InitSync slot count reset fiber) s = says (m.Init n slot count reset fiber) s
 one me n (i.PrintSync string cells slot) s = says_print me n (formatted string (ints_at n cells s)) slot s
-one me n (i.EndFunction cells) s = answers (answer_of (caller_of n s) (cells_at n cells s)) n s
+one me n (i.EndFunction cells) s = ends_function n cells s
 one me n i.EndFiber s = s
 
 -- whether an instruction ends its fiber
@@ -167,7 +171,7 @@ runs_in me n fiber None s = s
 runs_in me n fiber (Some f) s =
     if suits f (slice_get s.frames n) then does_fiber me n (slice_get f.fibers fiber) s else s
 
--- a fiber of a frame runs to its end, where the frame is live and its function stands in the code with that fiber, with as
--- many cells as the frame has, and as many results as its call
+-- a fiber of a frame runs to its end, where the frame is live and its function stands in the code with that fiber, with
+-- as many cells as the frame has, and as many results as its call
 abbrev pub runs_fiber : Code → ℕ → ℕ → ℕ → Exec → Exec
 runs_fiber code me n fiber s = runs_in me n fiber (function_at code n s) s

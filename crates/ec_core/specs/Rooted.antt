@@ -79,7 +79,8 @@ IsBirth w (Some b) = Takes b.number (slice_get (frames_at w b.node) b.frame)
 -- from a birth its frame's birth follows, and so on back to a frame without birth
 pub data LeadsBack (w : List Node) : Option Birth → Type 0 where
   root : LeadsBack w None
-  through : (b : Birth) (f : Frame) → slice_get (frames_at w b.node) b.frame ≡ Some f → LeadsBack w f.birth → LeadsBack w (Some b)
+  through : (b : Birth) (f : Frame)
+      → slice_get (frames_at w b.node) b.frame ≡ Some f → LeadsBack w f.birth → LeadsBack w (Some b)
 
 abbrev pub is_birth : Birth → Option Birth → Bool
 is_birth b None = false

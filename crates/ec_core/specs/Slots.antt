@@ -24,7 +24,8 @@ row_with slot x row = slice_set (grown (slot + 1) None row) slot (Some x)
 
 -- the rows with this slot of a frame
 abbrev pub with_slot : ℕ → ℕ → Slot → List Row → List Row
-with_slot frame slot x rows = slice_set (grown (frame + 1) [] rows) frame (row_with slot x (row_in (slice_get rows frame)))
+with_slot frame slot x rows =
+    slice_set (grown (frame + 1) [] rows) frame (row_with slot x (row_in (slice_get rows frame)))
 
 -- the rows without a frame's slots
 abbrev pub without : ℕ → List Row → List Row
@@ -38,10 +39,15 @@ abbrev pub fillings_of : Option Slot → ℕ
 fillings_of None = 0
 fillings_of (Some x) = x.fillings
 
--- a slot set up: its fillings stay
+-- a slot that waits for so many syncs, in the place of what was there: its fillings stay
+abbrev pub waiting : ℕ → ℕ → ℕ → Option Slot → Slot
+waiting count reset fiber before =
+    record { count = count; reset = reset; fiber = Some fiber; fillings = fillings_of before }
+
+-- a slot set up
 abbrev pub set_up : ℕ → ℕ → ℕ → ℕ → ℕ → List Row → List Row
 set_up frame slot count reset fiber rows =
-    with_slot frame slot (record { count = count; reset = reset; fiber = Some fiber; fillings = fillings_of (slot_of frame slot rows) }) rows
+    with_slot frame slot (waiting count reset fiber (slot_of frame slot rows)) rows
 
 -- a slot that was filled: it has its reset count, and one filling more
 abbrev pub refilled : Slot → Slot

@@ -70,7 +70,8 @@ is_function_name name = within 1 (length name) MAX_CODE_NAME && list_all is_name
 
 abbrev pub valid_function : Function → Bool
 valid_function f =
-    is_function_name f.name && nat_le f.params f.cells && nat_lt 0 (length f.fibers) && list_all (valid_fiber f) f.fibers
+    is_function_name f.name && nat_le f.params f.cells
+    && nat_lt 0 (length f.fibers) && list_all (valid_fiber f) f.fibers
 
 abbrev pub has_one_result : Option Function → Bool
 has_one_result None = false

@@ -8,7 +8,8 @@ pub struct Code {
     pub functions: List<Function>,
 }
 
-/// A threaded function: its frames have `cells` cells, the arguments in the first, and `slots` slots. Fiber 0 begins it.
+/// A threaded function: its frames have `cells` cells, the arguments in the first, and `slots` slots. Fiber 0 begins
+/// it.
 #[derive(Drop)]
 pub struct Function {
     pub name: Text,

@@ -4,7 +4,7 @@ use Rattle.std.specs.Str.{bytes_eq}
 use Rattle.std.proofs.lemmas.List.{drop_all}
 use Rattle.std.proofs.lemmas.Slice.Eq.{bytes_eq-Decides}
 use Rattle.ec_edge.specs.declared.memory_shelf.Written.{Written}
-use Rattle.ec_edge.specs.Shelf.{Told, bytes_of, holds, missing, untold}
+use Rattle.ec_edge.specs.Shelf.{Told, bytes_of}
 use Rattle.ec_edge.specs.MemoryShelf.{after, after_one, made}
 
 -- ---- what is told after a write

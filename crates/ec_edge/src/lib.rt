@@ -1,6 +1,7 @@
 //! Shelves of named files, sinks of bytes and the gate of the units.
 //! `specs/Fault.antt`, `specs/Sink.antt` and `specs/Shelf.antt` say what their clauses see of them,
-//! `specs/MemoryShelf.antt` and `specs/MemorySink.antt` what those in memory do besides. Of the system's files and streams nothing is told.
+//! `specs/MemoryShelf.antt` and `specs/MemorySink.antt` what those in memory do besides. Of the system's files and
+//! streams nothing is told.
 #![tactic(auto)]
 
 mod count;
@@ -22,3 +23,4 @@ pub use memory_sink::MemSink;
 pub use shelf::Shelf;
 pub use sink::Sink;
 pub use streams::{Std, StdSink};
+pub use transfer::send;

@@ -48,28 +48,3 @@ pub fn receive<R: Read>(alloc: Global, from: &mut R, most: u64) -> Result<ReadEn
         }
     }
 }
-
-#[cfg(test)]
-mod tests {
-    use super::*;
-
-    /// A writer that takes nothing.
-    #[derive(Drop)]
-    struct Stuck;
-
-    impl Write for Stuck {
-        fn write(&mut self, _buf: &[u8]) -> io::Result<usize> {
-            Ok(0)
-        }
-
-        fn flush(&mut self) -> io::Result<()> {
-            Ok(())
-        }
-    }
-
-    #[test]
-    fn a_writer_that_takes_nothing_is_an_error(rt: HostRuntime) {
-        assert!(rt; send(&mut Stuck, b"").is_ok());
-        assert!(rt; send(&mut Stuck, b"a").is_err());
-    }
-}

@@ -1,4 +1,5 @@
--- Kinds of bytes, and runs of them. A byte past a text's end reads as 0, which is no blank, no word byte and in no mark.
+-- Kinds of bytes, and runs of them. A byte past a text's end reads as 0, which is no blank, no word byte and in no
+-- mark.
 use Rattle.std.specs.Prelude.{ℕ, Bool, not, ◌==◌, ◌||◌, ◌&&◌, List, drop, take_while, slice_index, codes, nat_eq, nat_lt}
 use Rattle.std.specs.Char.{is_ascii_alphanumeric}
 use Rattle.std.specs.List.{prefix_len, starts_with}

@@ -1,11 +1,12 @@
--- What stands at the front of a text: nothing, something that is skipped, a token, or a fault. Places count from the front.
+-- What stands at the front of a text: nothing, something that is skipped, a token, or a fault. Places count from the
+-- front.
 use Rattle.std.specs.Prelude.{◌≡◌, ℕ, ◌+◌, ◌-◌, ◌<◌, ◌≤◌, Bool, true, false, ◌==◌, ◌&&◌, ◌||◌, if◌then◌else◌, List, [], ◌∷◌, length, take, drop, slice_index, Option, Some, None, pos}
 use Rattle.std.specs.Char.{is_ascii_digit}
+use Rattle.ec_base.specs.declared.reason.Reason.TheVariants.{BadByte, BadNumber, OpenComment, OpenString, HashLine}
 use Rattle.ec_base.specs.Lexical.{is_lexical}
 use Rattle.ec_base.specs.declared.token.Mark.{Mark}
 use Rattle.ec_base.specs.declared.token.TokenKind.TheVariants.{Word, Number, Str}
 use Rattle.ec_base.specs.declared.token.TokenKind.TheVariants as kind
-use Rattle.ec_lex.specs.declared.fault.Fault.TheVariants.{BadByte, BadNumber, OpenComment, OpenString, HashLine}
 use Rattle.ec_lex.specs.declared.front.Front.{Front}
 use Rattle.ec_lex.specs.declared.front.Front.TheVariants.{Over, Skips, Takes, Fails}
 use Rattle.ec_lex.specs.declared.strings.Decoded.{Decoded}
@@ -35,7 +36,7 @@ number text = numbered (number_value (run text)) (length (run text))
 -- a string of so many bytes, or the fault in it
 abbrev pub told : ℕ → Decoded → Front
 told count (Whole bytes) = Takes (Str bytes) count
-told count (Broken fault from to) = Fails fault from to
+told count (Broken reason from to) = Fails reason from to
 
 -- a string whose closing quote stands at this place, or one that its line leaves open
 abbrev pub closed : List ℕ → Option ℕ → Front
@@ -64,7 +65,8 @@ comment text = commented text (comment_end 2 (drop 2 text))
 
 -- a line whose first byte that is no blank is `#`
 unfoldable pub hash_line : List ℕ → Front
-hash_line text = if is_include (drop 1 text) then Skips (line_length text) false else Fails HashLine 0 (line_length text)
+hash_line text =
+    if is_include (drop 1 text) then Skips (line_length text) false else Fails HashLine 0 (line_length text)
 
 -- ---- marks
 
@@ -84,8 +86,8 @@ mark b next = long (long_mark b next) (short (short_mark b))
 
 -- ---- the front
 
--- A blank, a number, a word, a string, a comment, a line with `#` in front, or a mark. Fresh says that the bytes before on
--- this line are all blanks: a `#` that is not fresh begins no token.
+-- A blank, a number, a word, a string, a comment, a line with `#` in front, or a mark. Fresh says that the bytes before
+-- on this line are all blanks: a `#` that is not fresh begins no token.
 unfoldable pub front : (fresh : Bool) → List ℕ → Front
 front fresh [] = Over
 front fresh (b ∷ rest) =
@@ -109,11 +111,11 @@ abbrev pub IsFrontOf : List ℕ → Front → Type 0
 IsFrontOf text Over = length text ≡ 0
 IsFrontOf text (Skips count fresh) = IsPart count text
 IsFrontOf text (Takes kind count) = IsPart count text
-IsFrontOf text (Fails fault from to) = (from < to) × (to ≤ length text)
+IsFrontOf text (Fails reason from to) = (from < to) × (to ≤ length text)
 
 -- a token at the front is one that a source text can give
 abbrev pub IsLexicalFront : Front → Type 0
 IsLexicalFront Over = Unit {0}
 IsLexicalFront (Skips count fresh) = Unit {0}
 IsLexicalFront (Takes kind count) = is_lexical kind ≡ true
-IsLexicalFront (Fails fault from to) = Unit {0}
+IsLexicalFront (Fails reason from to) = Unit {0}

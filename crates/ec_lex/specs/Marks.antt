@@ -11,18 +11,20 @@ spelled (m ∷ ms) bytes = if bytes_eq m.0 bytes then Some m.1 else spelled ms b
 -- the longer marks, which are looked for first
 abbrev pub marks_of_two_bytes : List (List ℕ × Mark)
 marks_of_two_bytes =
-    (codes "{^", OpenPar) ∷ (codes "^}", ClosePar) ∷ (codes "->", Arrow) ∷ (codes "++", Increment) ∷ (codes "--", Decrement)
+    (codes "{^", OpenPar) ∷ (codes "^}", ClosePar) ∷ (codes "->", Arrow)
+    ∷ (codes "++", Increment) ∷ (codes "--", Decrement)
     ∷ (codes "<<", ShiftLeft) ∷ (codes ">>", ShiftRight) ∷ (codes "<=", LessEqual) ∷ (codes ">=", GreaterEqual)
     ∷ (codes "==", Equal) ∷ (codes "!=", NotEqual) ∷ (codes "&&", AndAnd) ∷ (codes "||", OrOr) ∷ []
 
 -- the marks of one byte
 abbrev pub marks_of_one_byte : List (List ℕ × Mark)
 marks_of_one_byte =
-    (codes "{", OpenBrace) ∷ (codes "}", CloseBrace) ∷ (codes "(", OpenParen) ∷ (codes ")", CloseParen) ∷ (codes "[", OpenBracket)
-    ∷ (codes "]", CloseBracket) ∷ (codes ";", Semicolon) ∷ (codes ",", Comma) ∷ (codes ".", Dot) ∷ (codes "@", At)
-    ∷ (codes "=", Assign) ∷ (codes "+", Plus) ∷ (codes "-", Minus) ∷ (codes "*", Star) ∷ (codes "/", Slash) ∷ (codes "%", Percent)
-    ∷ (codes "&", And) ∷ (codes "|", Or) ∷ (codes "^", Caret) ∷ (codes "~", Tilde) ∷ (codes "!", Bang) ∷ (codes "<", Less)
-    ∷ (codes ">", Greater) ∷ []
+    (codes "{", OpenBrace) ∷ (codes "}", CloseBrace) ∷ (codes "(", OpenParen) ∷ (codes ")", CloseParen)
+    ∷ (codes "[", OpenBracket) ∷ (codes "]", CloseBracket)
+    ∷ (codes ";", Semicolon) ∷ (codes ",", Comma) ∷ (codes ".", Dot) ∷ (codes "@", At) ∷ (codes "=", Assign)
+    ∷ (codes "+", Plus) ∷ (codes "-", Minus) ∷ (codes "*", Star) ∷ (codes "/", Slash) ∷ (codes "%", Percent)
+    ∷ (codes "&", And) ∷ (codes "|", Or) ∷ (codes "^", Caret) ∷ (codes "~", Tilde) ∷ (codes "!", Bang)
+    ∷ (codes "<", Less) ∷ (codes ">", Greater) ∷ []
 
 -- the mark of two bytes that these are
 unfoldable pub long_mark : ℕ → ℕ → Option Mark

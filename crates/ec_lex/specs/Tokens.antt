@@ -1,18 +1,20 @@
--- The tokens of a text and its first refusal. The text is cut into parts, one after another: each is skipped or is a token.
+-- The tokens of a text and its first refusal. The text is cut into parts, one after another: each is skipped or is a
+-- token.
 use Rattle.std.specs.Prelude.{◌≡◌, ◌≢◌, ℕ, ◌+◌, ◌^◌, ◌<◌, Bool, true, false, not, ◌==◌, ◌||◌, ◌&&◌, List, [], ◌∷◌, ◌++◌, map, length, Contains, Option, Some, None, Result, Ok, Err, pos, codes, decimal}
 use Rattle.std.specs.Char.{is_ascii_alphabetic, is_ascii_digit}
 use Rattle.std.specs.List.{list_all}
 use Rattle.ec_base.specs.declared.fail.Fail.{Fail}
 use Rattle.ec_base.specs.declared.fail.Fail.TheVariants.{Memory, Refused}
+use Rattle.ec_base.specs.declared.reason.Reason.{Reason}
+use Rattle.ec_base.specs.declared.reason.Reason.TheVariants.{BadByte, BadNumber, OpenComment, OpenString, BadEscape, HashLine}
 use Rattle.ec_base.specs.declared.token.Mark.{Mark}
 use Rattle.ec_base.specs.declared.token.Span.{Span}
 use Rattle.ec_base.specs.declared.token.Token.{Token}
 use Rattle.ec_base.specs.declared.token.TokenKind.{TokenKind}
 use Rattle.ec_base.specs.declared.token.TokenKind.TheVariants.{Word, Number, Str, End}
 use Rattle.ec_base.specs.declared.token.TokenKind.TheVariants as kind
-use Rattle.ec_lex.specs.declared.fault.Fault.{Fault}
-use Rattle.ec_lex.specs.declared.fault.Fault.TheVariants.{BadByte, BadNumber, OpenComment, OpenString, BadEscape, HashLine}
-use Rattle.ec_lex.specs.declared.fault.LexRefusal.{LexRefusal}
+use Rattle.ec_base.specs.Reason.{number_of}
+use Rattle.ec_lex.specs.declared.refusal.LexRefusal.{LexRefusal}
 use Rattle.ec_lex.specs.Bytes.{is_line_blank, is_blank, is_word_byte, is_control}
 use Rattle.ec_lex.specs.Marks.{marks_of_two_bytes, marks_of_one_byte}
 
@@ -40,7 +42,8 @@ pub record IsAll (test : ℕ → Bool) (part rest : List ℕ) : Type 0 where
 abbrev pub is_within_line : ℕ → Bool
 is_within_line b = not (b == 10)
 
--- Whether the bytes of a line so far are all blanks, after a part of the text, where `fresh` says whether they were before.
+-- Whether the bytes of a line so far are all blanks, after a part of the text, where `fresh` says whether they were
+-- before.
 abbrev pub fresh_after : (fresh : Bool) → List ℕ → Bool
 fresh_after fresh [] = fresh
 fresh_after fresh (b ∷ part) = fresh_after (b == 10 || (fresh && is_line_blank b)) part
@@ -63,7 +66,8 @@ pub data IsSkipped : (fresh : Bool) → (part : List ℕ) → (rest : List ℕ) 
   line_comment : {fresh : Bool} {part rest : List ℕ}
       → Begins (codes "//") part → IsAll is_within_line part rest → IsSkipped fresh part rest
   block_comment : {fresh : Bool} {part rest : List ℕ} (body : List ℕ)
-      → part ≡ codes "/*" ++ (body ++ codes "*/") → (Holds (codes "*/") (body ++ codes "*") → ⊥) → IsSkipped fresh part rest
+      → part ≡ codes "/*" ++ (body ++ codes "*/") → (Holds (codes "*/") (body ++ codes "*") → ⊥)
+      → IsSkipped fresh part rest
   include_line : {fresh : Bool} {part rest : List ℕ}
       → fresh ≡ true → IsInclude part → IsAll is_within_line part rest → IsSkipped fresh part rest
 
@@ -111,15 +115,6 @@ pub data IsSpelled : (part : List ℕ) → (rest : List ℕ) → TokenKind → T
 
 -- ---- faults
 
--- the number of each fault
-abbrev pub number_of : Fault → ℕ
-number_of BadByte = 1
-number_of BadNumber = 2
-number_of OpenComment = 3
-number_of OpenString = 4
-number_of BadEscape = 5
-number_of HashLine = 6
-
 -- what may stand between the quotes of a string that closes, be it right or wrong: an escaped quote closes nothing
 pub data IsClosable : List ℕ → Type 0 where
   nothing : IsClosable []
@@ -127,7 +122,7 @@ pub data IsClosable : List ℕ → Type 0 where
   two : {e : ℕ} {inside : List ℕ} → is_within_line e ≡ true → IsClosable inside → IsClosable (92 ∷ e ∷ inside)
 
 -- bytes that may not stand in a string: a control byte, and a backslash before a byte with which it stands for none
-pub data IsBad : List ℕ → Fault → Type 0 where
+pub data IsBad : List ℕ → Reason → Type 0 where
   control : {b : ℕ} → is_control b ≡ true → IsBad (b ∷ []) BadByte
   no_escape : {e : ℕ} → ((b : ℕ) → IsEscape e b → ⊥) → is_within_line e ≡ true → IsBad (92 ∷ e ∷ []) BadEscape
 
@@ -140,7 +135,7 @@ pub record BeginsNothing (fresh : Bool) (b : ℕ) (rest : List ℕ) : Type 0 whe
   pub no_opening : (opening : List ℕ) → Contains openings opening → Begins opening (b ∷ rest) → ⊥
 
 -- The first fault of a text, of which nothing is cut off yet: of its three parts the second is refused.
-pub data IsFault : (fresh : Bool) → (before : List ℕ) → (bad : List ℕ) → (rest : List ℕ) → Fault → Type 0 where
+pub data IsFault : (fresh : Bool) → (before : List ℕ) → (bad : List ℕ) → (rest : List ℕ) → Reason → Type 0 where
   bad_byte : {fresh : Bool} {b : ℕ} {rest : List ℕ}
       → BeginsNothing fresh b rest → IsFault fresh [] (b ∷ []) rest BadByte
   bad_number : {fresh : Bool} {bad rest : List ℕ}
@@ -152,9 +147,10 @@ pub data IsFault : (fresh : Bool) → (before : List ℕ) → (bad : List ℕ) �
       → bad ≡ codes "\"" ++ line → IsAll is_within_line bad rest
       → ((inside : List ℕ) → IsClosable inside → Begins (inside ++ codes "\"") line → ⊥)
       → IsFault fresh [] bad rest OpenString
-  bad_inside : {fresh : Bool} {before inside bytes bad after rest : List ℕ} {fault : Fault} (more : List ℕ)
+  bad_inside : {fresh : Bool} {before inside bytes bad after rest : List ℕ} {reason : Reason} (more : List ℕ)
       → before ≡ codes "\"" ++ inside → IsInside inside bytes
-      → IsBad bad fault → rest ≡ after ++ (codes "\"" ++ more) → IsClosable after → IsFault fresh before bad rest fault
+      → IsBad bad reason → rest ≡ after ++ (codes "\"" ++ more) → IsClosable after
+      → IsFault fresh before bad rest reason
   hash_line : {fresh : Bool} {bad rest : List ℕ}
       → fresh ≡ true → Begins (codes "#") bad → IsAll is_within_line bad rest → (IsInclude bad → ⊥)
       → IsFault fresh [] bad rest HashLine
@@ -165,25 +161,31 @@ pub data IsFault : (fresh : Bool) → (before : List ℕ) → (bad : List ℕ) �
 abbrev pub bytes_at : (at : ℕ) → (count : ℕ) → Span
 bytes_at at count = record { from = at; to = at + count }
 
--- The tokens and the refusal of what stands in a text from the place `at` on; fresh says whether the bytes before on its
--- line are all blanks.
+-- the refusal for a reason, at a place
+abbrev pub refusal_at : Reason → Span → LexRefusal
+refusal_at reason at = record { what = number_of reason; at = at }
+
+-- The tokens and the refusal of what stands in a text from the place `at` on; fresh says whether the bytes before on
+-- its line are all blanks.
 pub data Cuts : (at : ℕ) → (fresh : Bool) → List ℕ → List Token → Option LexRefusal → Type 0 where
   over : {at : ℕ} {fresh : Bool} {tokens : List Token}
       → tokens ≡ record { kind = End; at = bytes_at at 0 } ∷ [] → Cuts at fresh [] tokens None
   skips : {at : ℕ} {fresh : Bool} {text part rest : List ℕ} {tokens : List Token} {refusal : Option LexRefusal}
       → text ≡ part ++ rest → IsSkipped fresh part rest
       → Cuts (at + length part) (fresh_after fresh part) rest tokens refusal → Cuts at fresh text tokens refusal
-  takes : {at : ℕ} {fresh : Bool} {text part rest : List ℕ} {kind : TokenKind} {first : Token} {tokens : List Token} {refusal : Option LexRefusal}
+  takes : {at : ℕ} {fresh : Bool} {text part rest : List ℕ} {kind : TokenKind} {first : Token} {tokens : List Token}
+      {refusal : Option LexRefusal}
       → text ≡ part ++ rest → IsSpelled part rest kind → first ≡ record { kind = kind; at = bytes_at at (length part) }
       → Cuts (at + length part) false rest tokens refusal → Cuts at fresh text (first ∷ tokens) refusal
-  fails : {at : ℕ} {fresh : Bool} {text before bad rest : List ℕ} {fault : Fault} {refusal : LexRefusal}
-      → text ≡ before ++ (bad ++ rest) → IsFault fresh before bad rest fault
-      → refusal ≡ record { what = number_of fault; at = bytes_at (at + length before) (length bad) } → Cuts at fresh text [] (Some refusal)
+  fails : {at : ℕ} {fresh : Bool} {text before bad rest : List ℕ} {reason : Reason} {refusal : LexRefusal}
+      → text ≡ before ++ (bad ++ rest) → IsFault fresh before bad rest reason
+      → refusal ≡ refusal_at reason (bytes_at (at + length before) (length bad)) → Cuts at fresh text [] (Some refusal)
 
 -- these alone are the tokens and the refusal of the text
 abbrev pub IsOnlyCut : List ℕ → List Token → Option LexRefusal → Type 0
 IsOnlyCut text tokens refusal =
-    (others : List Token) (other : Option LexRefusal) → Cuts 0 true text others other → (others ≡ tokens) × (other ≡ refusal)
+    (others : List Token) (other : Option LexRefusal) →
+    Cuts 0 true text others other → (others ≡ tokens) × (other ≡ refusal)
 
 -- the tokens of a text that has no refusal, or else its refusal; memory may be wanted anywhere
 abbrev pub CutsInto : List ℕ → Result (List Token) (Fail LexRefusal) → Type 0
@@ -200,8 +202,10 @@ IsOnly text (Err Memory) = Unit {0}
 
 -- each text has a cut, and no other
 abbrev pub TextsHaveACut : Type 0
-TextsHaveACut = (text : List ℕ) → (tokens : List Token) × (refusal : Option LexRefusal) × Cuts 0 true text tokens refusal
+TextsHaveACut =
+    (text : List ℕ) → (tokens : List Token) × (refusal : Option LexRefusal) × Cuts 0 true text tokens refusal
 
 abbrev pub TextsHaveOneCut : Type 0
 TextsHaveOneCut =
-    (text : List ℕ) (tokens : List Token) (refusal : Option LexRefusal) → Cuts 0 true text tokens refusal → IsOnlyCut text tokens refusal
+    (text : List ℕ) (tokens : List Token) (refusal : Option LexRefusal) →
+    Cuts 0 true text tokens refusal → IsOnlyCut text tokens refusal

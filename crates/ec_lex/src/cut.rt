@@ -2,12 +2,12 @@
 ghost use Rattle.std.specs.Prelude.{◌≡◌, ◌≤◌, ◌+◌, true, IfOk, length, map};
 ghost use Rattle.ec_base.specs.Lexical.{AllLexical};
 ghost use Rattle.ec_lex.specs.Scan as spec;
-ghost use Rattle.ec_lex.specs.Tokens.{Cuts, CutsInto, IsOnly, IsOnlyCut, number_of};
+ghost use Rattle.ec_lex.specs.Tokens.{Cuts, CutsInto, IsOnly, IsOnlyCut, refusal_at};
 
-use crate::fault::{Fault, LexRefusal, number};
 use crate::front::{Front, read_front};
+use crate::refusal::LexRefusal;
 use crate::tokens::Scan;
-use ec_base::{Fail, List, MAX_SOURCE, NoMemory, Span, Token, TokenKind, Tokens};
+use ec_base::{Fail, List, MAX_SOURCE, NoMemory, Reason, Span, Token, TokenKind, Tokens};
 use std::alloc::Global;
 
 /// From the place `from` to the place `to` after the first `at` bytes of a text.
@@ -32,13 +32,13 @@ fn token(at: usize, kind: TokenKind, count: usize) -> Token
     }
 }
 
-fn refusal(at: usize, fault: Fault, from: usize, to: usize) -> LexRefusal
+fn refusal(at: usize, reason: Reason, from: usize, to: usize) -> LexRefusal
     requires from { at + from ≤ MAX_SOURCE }
     requires to { at + to ≤ MAX_SOURCE }
-    ensures { result ≡ record { what = number_of fault; at = spec.span at from to } }
+    ensures { result ≡ refusal_at reason (spec.span at from to) }
 {
     LexRefusal {
-        what: number(fault),
+        what: reason.number(),
         at: span(at, from, to),
     }
 }
@@ -72,10 +72,10 @@ fn scan(alloc: Global, text: &[u8]) -> Result<Scan, NoMemory>
                 at += count;
                 fresh = false;
             }
-            Front::Fails { fault, from, to } => {
+            Front::Fails { reason, from, to } => {
                 return Ok(Scan {
                     tokens,
-                    refusal: Some(refusal(at, fault, from, to)),
+                    refusal: Some(refusal(at, reason, from, to)),
                 });
             }
         }

@@ -5,11 +5,10 @@ ghost use Rattle.ec_lex.specs.Tokens.{begins_word};
 ghost use Rattle.ec_lex.specs.Front as spec;
 
 use crate::bytes::{byte_at, is_include, line_length, run};
-use crate::fault::Fault;
 use crate::marks::{long_mark, short_mark};
 use crate::numbers::number_value;
 use crate::strings::{Decoded, closing, decode};
-use ec_base::{Text, TokenKind};
+use ec_base::{Reason, Text, TokenKind};
 use std::alloc::{AllocError, Global};
 
 /// What stands at the front of a text, with its count of bytes, or where the fault stands.
@@ -27,7 +26,7 @@ pub enum Front {
         count: usize,
     },
     Fails {
-        fault: Fault,
+        reason: Reason,
         from: usize,
         to: usize,
     },
@@ -61,7 +60,7 @@ fn read_number(text: &[u8]) -> Front
             count: digits.len(),
         },
         None => Front::Fails {
-            fault: Fault::BadNumber,
+            reason: Reason::BadNumber,
             from: 0,
             to: digits.len(),
         },
@@ -78,7 +77,7 @@ fn read_string(alloc: Global, text: &[u8]) -> Result<Front, AllocError>
 {
     match closing(&text[1..]) {
         None => Ok(Front::Fails {
-            fault: Fault::OpenString,
+            reason: Reason::OpenString,
             from: 0,
             to: line_length(text),
         }),
@@ -87,7 +86,7 @@ fn read_string(alloc: Global, text: &[u8]) -> Result<Front, AllocError>
                 kind: TokenKind::Str(bytes),
                 count: end + 1,
             }),
-            Decoded::Broken { fault, from, to } => Ok(Front::Fails { fault, from, to }),
+            Decoded::Broken { reason, from, to } => Ok(Front::Fails { reason, from, to }),
         },
     }
 }
@@ -119,7 +118,7 @@ fn read_comment(text: &[u8]) -> Front
             fresh: false,
         },
         None => Front::Fails {
-            fault: Fault::OpenComment,
+            reason: Reason::OpenComment,
             from: 0,
             to: text.len(),
         },
@@ -141,7 +140,7 @@ fn read_hash_line(text: &[u8]) -> Front
         }
     } else {
         Front::Fails {
-            fault: Fault::HashLine,
+            reason: Reason::HashLine,
             from: 0,
             to: end,
         }
@@ -168,7 +167,7 @@ fn read_mark(text: &[u8]) -> Front
             count: 1,
         },
         None => Front::Fails {
-            fault: Fault::BadByte,
+            reason: Reason::BadByte,
             from: 0,
             to: 1,
         },

@@ -1,17 +1,18 @@
 //! Cuts a source text into tokens.
-//! `specs/Tokens.antt` says which tokens and refusal a text has; `specs/Front.antt` and `specs/Scan.antt` compute the same.
+//! `specs/Tokens.antt` says which tokens and refusal a text has; `specs/Front.antt` and `specs/Scan.antt` compute the
+//! same.
 #![tactic(auto)]
 
 mod bytes;
 mod cut;
-mod fault;
 mod front;
 mod laws;
 mod marks;
 mod numbers;
+mod refusal;
 mod strings;
 mod tokens;
 
 pub use cut::lex;
-pub use fault::LexRefusal;
 pub use laws::texts_have_one_cut;
+pub use refusal::LexRefusal;

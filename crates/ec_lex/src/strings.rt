@@ -3,8 +3,7 @@ ghost use Rattle.std.specs.Prelude.{◌≡◌, ◌<◌, ◌≤◌, ◌+◌, ◌^
 ghost use Rattle.ec_lex.specs.Strings as spec;
 
 use crate::bytes::is_control;
-use crate::fault::Fault;
-use ec_base::Text;
+use ec_base::{Reason, Text};
 use std::alloc::{AllocError, Global};
 
 /// What a byte of a string stands for.
@@ -13,7 +12,7 @@ pub enum Piece {
     /// The first byte of an escape.
     Backslash,
     Byte(u8),
-    Bad(Fault),
+    Bad(Reason),
 }
 
 /// What the inside of a string stands for: its bytes, or its first fault, from a place to another.
@@ -21,7 +20,7 @@ pub enum Piece {
 pub enum Decoded {
     Whole(Text),
     Broken {
-        fault: Fault,
+        reason: Reason,
         from: usize,
         to: usize,
     },
@@ -54,7 +53,7 @@ fn escape(byte: u8) -> Piece
         b'n' => Piece::Byte(b'\n'),
         b't' => Piece::Byte(b'\t'),
         b'\\' | b'"' => Piece::Byte(byte),
-        _ => Piece::Bad(Fault::BadEscape),
+        _ => Piece::Bad(Reason::BadEscape),
     }
 }
 
@@ -67,7 +66,7 @@ fn piece_of(escaped: bool, byte: u8) -> Piece
     } else if byte == b'\\' {
         Piece::Backslash
     } else if is_control(byte) {
-        Piece::Bad(Fault::BadByte)
+        Piece::Bad(Reason::BadByte)
     } else {
         Piece::Byte(byte)
     }
@@ -98,9 +97,9 @@ pub fn decode(alloc: Global, inside: &[u8]) -> Result<Decoded, AllocError>
                 bytes.push(b)?;
                 escaped = false;
             }
-            Piece::Bad(fault) => {
+            Piece::Bad(reason) => {
                 return Ok(Decoded::Broken {
-                    fault,
+                    reason,
                     from: begin_of(escaped, before + 1),
                     to: before + 2,
                 });

@@ -1,5 +1,5 @@
 //! What a text is cut into.
-use crate::fault::LexRefusal;
+use crate::refusal::LexRefusal;
 use ec_base::{List, Token};
 
 /// The tokens of a text up to its first refusal, the end last where there is none.

@@ -22,7 +22,8 @@ Places = ℕ → ℕ → List Instr
 abbrev pub expr_instrs : Expr-F Places → Places
 expr_instrs (Expr-F.Number n) d base = i.Const d n ∷ []
 expr_instrs (Expr-F.Var k) d base = i.Copy d k ∷ []
-expr_instrs (Expr-F.Binary op a b) d base = a base base ++ b (base + 1) (base + 1) ++ operation op d base (base + 1) ∷ []
+expr_instrs (Expr-F.Binary op a b) d base =
+    a base base ++ b (base + 1) (base + 1) ++ operation op d base (base + 1) ∷ []
 
 -- the value of an expression goes to cell d; its temporaries are the cells from base on
 abbrev pub instrs : ℕ → ℕ → Expr → List Instr
@@ -54,7 +55,8 @@ fiber is = record { instrs = is }
 -- a `printf` at the end of fiber k
 abbrev pub print_instrs : ℕ → ℕ → List ℕ → List Expr → List Instr
 print_instrs base k s es =
-    args_instrs base es ++ i.InitSync 0 1 1 (k + 1) ∷ i.PrintSync s (range_with_len base (length es)) 0 ∷ i.EndFiber ∷ []
+    args_instrs base es
+    ++ i.InitSync 0 1 1 (k + 1) ∷ i.PrintSync s (range_with_len base (length es)) 0 ∷ i.EndFiber ∷ []
 
 -- the fibers from number k on, the first of which begins with instructions that stand already
 abbrev pub fibers : ℕ → ℕ → List Instr → List Stmt → Expr → List Fiber

@@ -37,13 +37,14 @@ abbrev pub Keeps : ℕ → List Instr → Type 0
 Keeps x is = list_any (sets x) is ≡ false
 
 -- an expression whose value goes to cell d: one CONST a number, one COPY a variable, one operation an operator, each
--- operand before it, in a cell of its own that stands until then. That cell is a temporary: since every operand's is, no
--- instruction sets a variable's cell, but for the last one where d is a variable's.
+-- operand before it, in a cell of its own that stands until then. That cell is a temporary: since every operand's is,
+-- no instruction sets a variable's cell, but for the last one where d is a variable's.
 pub data Computes (n : ℕ) : Expr → ℕ → List Instr → Type 0 where
   number : {v : ℤ} {d : ℕ} → Computes n (Number v) d (i.Const d v ∷ [])
   variable : {k d : ℕ} → Computes n (Var k) d (i.Copy d k ∷ [])
-  binary : {op : Operator} {a b : Expr} {d x y : ℕ} {is js : List Instr} → n ≤ x → n ≤ y → Computes n a x is → Computes n b y js →
-      Keeps x js → Computes n (Binary op a b) d (is ++ js ++ operation op d x y ∷ [])
+  binary : {op : Operator} {a b : Expr} {d x y : ℕ} {is js : List Instr} → n ≤ x → n ≤ y →
+      Computes n a x is → Computes n b y js → Keeps x js →
+      Computes n (Binary op a b) d (is ++ js ++ operation op d x y ∷ [])
 
 -- expressions whose values go to these cells, in order: temporaries, each of which stands until all have their values
 pub data ComputesAll (n : ℕ) : List Expr → List ℕ → List Instr → Type 0 where
@@ -59,7 +60,8 @@ pub data Owed (n : ℕ) : List Stmt → Expr → ℕ → List (List Instr) → T
       Owed n [] e k ((is ++ i.EndFunction (d ∷ []) ∷ []) ∷ [])
   set : {e r : Expr} {x k : ℕ} {ss : List Stmt} {is js : List Instr} {fs : List (List Instr)} → Computes n e x is →
       Owed n ss r k (js ∷ fs) → Owed n (Set x e ∷ ss) r k ((is ++ js) ∷ fs)
-  print : (slot : ℕ) → {r : Expr} {s : List ℕ} {es : List Expr} {ds : List ℕ} {k : ℕ} {ss : List Stmt} {is : List Instr} {fs : List (List Instr)} →
+  print : (slot : ℕ) → {r : Expr} {s : List ℕ} {es : List Expr} {ds : List ℕ} {k : ℕ} {ss : List Stmt}
+      {is : List Instr} {fs : List (List Instr)} →
       ComputesAll n es ds is → Owed n ss r (k + 1) fs →
       Owed n (Print s es ∷ ss) r k ((is ++ i.InitSync slot 1 1 (k + 1) ∷ i.PrintSync s ds slot ∷ i.EndFiber ∷ []) ∷ fs)
 
@@ -68,7 +70,8 @@ pub data OwedFrom (n : ℕ) : ℕ → List (Option Expr) → List Stmt → Expr 
   none : {x : ℕ} {ss : List Stmt} {r : Expr} {fs : List (List Instr)} → Owed n ss r 0 fs → OwedFrom n x [] ss r fs
   plain : {x : ℕ} {os : List (Option Expr)} {ss : List Stmt} {r : Expr} {fs : List (List Instr)} →
       OwedFrom n (x + 1) os ss r fs → OwedFrom n x (None ∷ os) ss r fs
-  initial : {x : ℕ} {e : Expr} {os : List (Option Expr)} {ss : List Stmt} {r : Expr} {is js : List Instr} {fs : List (List Instr)} →
+  initial : {x : ℕ} {e : Expr} {os : List (Option Expr)} {ss : List Stmt} {r : Expr} {is js : List Instr}
+      {fs : List (List Instr)} →
       Computes n e x is → OwedFrom n (x + 1) os ss r (js ∷ fs) → OwedFrom n x (Some e ∷ os) ss r ((is ++ js) ∷ fs)
 
 abbrev pub instrs_of : Function → List (List Instr)

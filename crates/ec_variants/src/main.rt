@@ -1,6 +1,6 @@
-//! Reads each text of data/, every beginning of it, and it with each byte left out or replaced by each of a dozen others.
-//! Each of these texts has to be a program, whose canonical text is printed again as it is, or to be refused by a number
-//! that is named at a place inside it. A line tells how many there were.
+//! Reads each text of data/, every beginning of it, and it with each byte left out or replaced by each of a dozen
+//! others. Each of these texts has to be a program, whose canonical text is printed again as it is, or to be refused by
+//! a number that is named at a place inside it. A line tells how many there were.
 #![tactic(auto)]
 
 ghost use Rattle.std.specs.Prelude.{◌≤◌, length, IfOk};

@@ -1,6 +1,6 @@
 //! What entries and spawned fibers do.
 ghost use Rattle.std.specs.Prelude.{◌≡◌, IfOk, OnOk, slice_get};
-ghost use Rattle.ec_core.specs.Entry.{entered, entry, frame_for, spawned_step};
+ghost use Rattle.ec_core.specs.Entry.{called, entry, frame_for, spawned_step};
 ghost use Rattle.ec_core.specs.Fiber.{says};
 ghost use Rattle.ec_core.specs.Queues.{Took};
 ghost use Rattle.ec_core.specs.declared.message.Message.TheVariants.{Sync};
@@ -34,7 +34,7 @@ fn frame_for(f: &Function, call: Call) -> Result<Frame, NoMemory>
 
 impl Eu {
     fn enter(&mut self, alloc: Global, code: &Code, me: u32, call: Call) -> Result<(), NoMemory>
-        ensures { OnOk result (self.new ≡ entered code.now me call (slice_get code.now.functions call.function) self.old) }
+        ensures { OnOk result (self.new ≡ called code.now me call self.old) }
     {
         let Some(f) = code.functions.get(call.function as usize) else {
             return Ok(());

@@ -1,7 +1,7 @@
 //! What one fiber run does.
 ghost use Rattle.std.specs.Prelude.{◌≡◌, IfOk, OnOk, slice_get};
 ghost use Rattle.ec_core.specs.declared.code.Instr.TheVariants.{PrintSync};
-ghost use Rattle.ec_core.specs.Fiber.{answer_of, answers, caller_of, cells_at, does, ends, one, runs_fiber, suits};
+ghost use Rattle.ec_core.specs.Fiber.{answer_of, caller_of, cells_at, does, ends, ends_function, one, runs_fiber, suits};
 
 use crate::code::{Code, Function, Instr};
 use crate::eu::Eu;
@@ -75,7 +75,7 @@ impl Eu {
     }
 
     fn end_function(&mut self, alloc: Global, frame: u64, cells: &[u32]) -> Result<(), NoMemory>
-        ensures { OnOk result (self.new ≡ answers (answer_of (caller_of frame self.old) (cells_at frame cells.now self.old)) frame self.old) }
+        ensures { OnOk result (self.new ≡ ends_function frame cells.now self.old) }
     {
         let values = self.cells(alloc, frame, cells)?;
         match self.answer_of(alloc, frame, values)? {

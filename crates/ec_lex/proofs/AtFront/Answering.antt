@@ -3,10 +3,10 @@ use Rattle.std.proofs.Common.{◌≡◌, ℕ, suc, ◌+◌, Bool, true, false, n
 use Rattle.std.specs.Prelude.{◌&&◌, ◌==◌, slice_index}
 use Rattle.std.specs.List.{list_all, prefix_len}
 use Rattle.std.proofs.lemmas.Bool.{and_parts, and_from, and_right, eqb-true, ne_eqb, not-true, false_from_ne_true, false≢true}
+use Rattle.ec_base.specs.declared.reason.Reason.{Reason}
+use Rattle.ec_base.specs.declared.reason.Reason.TheVariants.{OpenString, BadEscape}
 use Rattle.ec_base.specs.declared.token.TokenKind.TheVariants.{Str}
 use Rattle.ec_lex.specs.declared.front.Front.TheVariants.{Takes, Fails}
-use Rattle.ec_lex.specs.declared.fault.Fault.{Fault}
-use Rattle.ec_lex.specs.declared.fault.Fault.TheVariants.{OpenString, BadEscape}
 use Rattle.ec_lex.specs.declared.strings.Decoded.{Decoded}
 use Rattle.ec_lex.specs.declared.strings.Decoded.TheVariants.{Whole, Broken}
 use Rattle.ec_lex.specs.Bytes.{is_control, line_length}
@@ -69,7 +69,7 @@ control_is_plain b c = plain_from b (ne_eqb b 34 (λ e. apart 34 e refl)) (ne_eq
     apart : (d : ℕ) → b ≡ d → is_control d ≡ false → ⊥
     apart d e n = false≢true (sym n ∙ subst (λ x. is_control x ≡ true) e c)
 
-bad_closable : {bad : List ℕ} {fault : Fault} (more : List ℕ) → IsBad bad fault → IsClosable more → IsClosable (bad ++ more)
+bad_closable : {bad : List ℕ} {reason : Reason} (more : List ℕ) → IsBad bad reason → IsClosable more → IsClosable (bad ++ more)
 bad_closable more (control {b = b} c) s = one (control_is_plain b c) s
 bad_closable more (no_escape n w) s = two w s
 
@@ -87,9 +87,9 @@ put_all-whole : (bytes : List ℕ) → put_all bytes (Whole []) ≡ Whole bytes
 put_all-whole [] = refl
 put_all-whole (b ∷ bytes) = ap (put_byte b) (put_all-whole bytes)
 
-put_all-broken : (bytes : List ℕ) (fault : Fault) (from to : ℕ) → put_all bytes (Broken fault from to) ≡ Broken fault from to
-put_all-broken [] fault from to = refl
-put_all-broken (b ∷ bytes) fault from to = ap (put_byte b) (put_all-broken bytes fault from to)
+put_all-broken : (bytes : List ℕ) (reason : Reason) (from to : ℕ) → put_all bytes (Broken reason from to) ≡ Broken reason from to
+put_all-broken [] reason from to = refl
+put_all-broken (b ∷ bytes) reason from to = ap (put_byte b) (put_all-broken bytes reason from to)
 
 escape_is : {e b : ℕ} → IsEscape e b → strings.escape e ≡ Byte b
 escape_is escaped_n = refl
@@ -107,7 +107,7 @@ decoded_on at more (escape {e = e} {b = b} {inside = i} {bytes = bytes} is s) =
 not_escape : (e c b : ℕ) → ((d : ℕ) → IsEscape e d → ⊥) → IsEscape c b → (e == c) ≡ false
 not_escape e c b none is = ne_eqb e c (λ same. none b (subst (λ x. IsEscape x b) (sym same) is))
 
-decoded_bad : {bad : List ℕ} {fault : Fault} (at : ℕ) (more : List ℕ) → IsBad bad fault → decoded false at (bad ++ more) ≡ Broken fault at (at + length bad)
+decoded_bad : {bad : List ℕ} {reason : Reason} (at : ℕ) (more : List ℕ) → IsBad bad reason → decoded false at (bad ++ more) ≡ Broken reason at (at + length bad)
 decoded_bad at more (control {b = b} c) = rw (plain_parts b (control_is_plain b c)).1 (rw c refl)
 decoded_bad at more (no_escape {e = e} n w) =
     rw (not_escape e 110 10 n escaped_n) (rw (not_escape e 116 9 n escaped_t) (rw (not_escape e 92 92 n escaped_backslash) (rw (not_escape e 34 34 n escaped_quote)
@@ -123,12 +123,12 @@ unfolding front
 spelled_string fresh inside bytes rest h =
     string_is inside rest (inside_closable h) ∙ ap (told (length inside + 2)) (ap (decoded false 1) (sym (append-nil inside)) ∙ decoded_on 1 [] h ∙ put_all-whole bytes)
 
-pub broken_string : (fresh : Bool) (inside bytes bad after rest : List ℕ) (fault : Fault) → IsInside inside bytes → IsBad bad fault → IsClosable after
-    → front fresh (34 ∷ ((inside ++ (bad ++ after)) ++ (34 ∷ rest))) ≡ Fails fault (1 + length inside) (1 + length inside + length bad)
+pub broken_string : (fresh : Bool) (inside bytes bad after rest : List ℕ) (reason : Reason) → IsInside inside bytes → IsBad bad reason → IsClosable after
+    → front fresh (34 ∷ ((inside ++ (bad ++ after)) ++ (34 ∷ rest))) ≡ Fails reason (1 + length inside) (1 + length inside + length bad)
 unfolding front
-broken_string fresh inside bytes bad after rest fault h wrong c =
+broken_string fresh inside bytes bad after rest reason h wrong c =
     string_is (inside ++ (bad ++ after)) rest (closable_append (bad ++ after) h (bad_closable after wrong c))
-    ∙ ap (told (length (inside ++ (bad ++ after)) + 2)) (decoded_on 1 (bad ++ after) h ∙ ap (put_all bytes) (decoded_bad (1 + length inside) after wrong) ∙ put_all-broken bytes fault _ _)
+    ∙ ap (told (length (inside ++ (bad ++ after)) + 2)) (decoded_on 1 (bad ++ after) h ∙ ap (put_all bytes) (decoded_bad (1 + length inside) after wrong) ∙ put_all-broken bytes reason _ _)
 
 pub open_string : (fresh : Bool) (line rest : List ℕ) → list_all is_within_line line ≡ true → first is_within_line rest ≡ false
     → ((inside : List ℕ) → IsClosable inside → Begins (inside ++ codes "\"") line → ⊥) → front fresh (34 ∷ (line ++ rest)) ≡ Fails OpenString 0 (suc (length line))

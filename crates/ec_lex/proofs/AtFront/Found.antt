@@ -9,11 +9,11 @@ use Rattle.std.proofs.lemmas.Fmt.{decimal_nonempty, decimal_injective, digits_de
 use Rattle.std.proofs.lemmas.List.{get_or-map}
 use Rattle.std.proofs.lemmas.List.Elements.{Contains-append_cases, Contains-append_left, Contains-append_right}
 use Rattle.std.proofs.lemmas.Slice.Eq.{bytes_eq-Decides}
+use Rattle.ec_base.specs.declared.reason.Reason.TheVariants.{BadByte, BadNumber}
 use Rattle.ec_base.specs.declared.token.Mark.{Mark}
 use Rattle.ec_base.specs.declared.token.TokenKind.TheVariants.{Word, Number, Str}
 use Rattle.ec_base.specs.declared.token.TokenKind.TheVariants as kind
 use Rattle.ec_lex.specs.declared.front.Front.TheVariants.{Takes, Fails}
-use Rattle.ec_lex.specs.declared.fault.Fault.TheVariants.{BadByte, BadNumber}
 use Rattle.ec_lex.specs.Bytes.{is_blank, is_word_byte, run}
 use Rattle.ec_lex.specs.Numbers.{number_value}
 use Rattle.ec_lex.specs.Marks.{spelled, marks_of_two_bytes, marks_of_one_byte, long_mark, short_mark}

@@ -3,9 +3,9 @@ use Rattle.std.proofs.Common.{◌≡◌, ◌≢◌, ℕ, ◌+◌, ◌-◌, ◌�
 use Rattle.std.specs.Prelude.{◌||◌, ◌&&◌, ◌==◌, slice_index}
 use Rattle.std.specs.Char.{is_ascii_digit}
 use Rattle.std.proofs.lemmas.Bool.{cond_both, and_parts, and_from, eqb-true, eq-eqb, false≢true}
+use Rattle.ec_base.specs.declared.reason.Reason.{Reason}
+use Rattle.ec_base.specs.declared.reason.Reason.TheVariants.{HashLine}
 use Rattle.ec_lex.specs.declared.front.Front.TheVariants.{Skips, Fails}
-use Rattle.ec_lex.specs.declared.fault.Fault.{Fault}
-use Rattle.ec_lex.specs.declared.fault.Fault.TheVariants.{HashLine}
 use Rattle.ec_lex.specs.declared.strings.Decoded.{Decoded}
 use Rattle.ec_lex.specs.declared.strings.Decoded.TheVariants.{Whole, Broken}
 use Rattle.ec_lex.specs.Bytes.{is_line_blank, is_blank, is_word_byte, line_length, is_include}
@@ -146,7 +146,7 @@ take_front : (xs ys : List ℕ) → take (length xs) (xs ++ ys) ≡ xs
 take_front [] ys = refl
 take_front (x ∷ xs) ys = ap (λ l. x ∷ l) (take_front xs ys)
 
-bad_some : {bad : List ℕ} {fault : Fault} → IsBad bad fault → 1 ≤ length bad
+bad_some : {bad : List ℕ} {reason : Reason} → IsBad bad reason → 1 ≤ length bad
 bad_some (control c) = omega arith
 bad_some (no_escape n w) = omega arith
 
@@ -159,7 +159,7 @@ told_at fresh text inside more end (Whole bytes) cut is h = record {
   some = omega arith;
   is = spec.string refl h;
 }
-told_at fresh text inside more end (Broken fault from to) cut is h = record {
+told_at fresh text inside more end (Broken reason from to) cut is h = record {
   before = codes "\"" ++ h.done;
   bad = h.bad;
   rest = h.after ++ (codes "\"" ++ more);

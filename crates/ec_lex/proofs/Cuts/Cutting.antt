@@ -3,13 +3,12 @@ use Rattle.std.proofs.Common.{◌≡◌, ℕ, zero, suc, ◌+◌, ◌≤◌, Boo
 use Rattle.std.proofs.lemmas.List.Prefix.{front_rest}
 use Rattle.ec_base.specs.declared.token.TokenKind.{TokenKind}
 use Rattle.ec_base.specs.declared.token.TokenKind.TheVariants.{End}
-use Rattle.ec_base.specs.declared.token.Span.{Span}
 use Rattle.ec_lex.specs.declared.front.Front.{Front}
 use Rattle.ec_lex.specs.declared.front.Front.TheVariants.{Over, Skips, Takes, Fails}
 use Rattle.ec_lex.specs.declared.tokens.Scan.{Scan}
 use Rattle.ec_lex.specs.Front.{front, IsFrontOf}
 use Rattle.ec_lex.specs.Scan.{scanned, scanned_from, token, span}
-use Rattle.ec_lex.specs.Tokens.{Cuts, over, skips, takes, fails, bytes_at, number_of}
+use Rattle.ec_lex.specs.Tokens.{Cuts, over, skips, takes, fails, refusal_at, bytes_at}
 use Rattle.ec_lex.proofs.Cuts.Scanning.{after, scanned_from-front}
 use Rattle.ec_lex.proofs.AtFront.Told.{Tells}
 use Rattle.ec_lex.proofs.AtFront.Fronts.{front_tells}
@@ -27,7 +26,7 @@ part_of : (fresh : Bool) (text : List ℕ) (f : Front) → Tells fresh text f �
 part_of fresh text Over t = ap length t
 part_of fresh text (Skips count now) t = (t.some, within text t.part t.rest count t.cut t.count_is)
 part_of fresh text (Takes kind count) t = (t.some, within text t.part t.rest count t.cut t.count_is)
-part_of fresh text (Fails fault from to) t =
+part_of fresh text (Fails reason from to) t =
     (omega (arith, t.some, t.to_is), omega (arith, ap length t.cut, length-append t.before (t.bad ++ t.rest), length-append t.bad t.rest, t.from_is, t.to_is))
 
 -- ---- one front at a time
@@ -55,8 +54,8 @@ after_cuts at fresh text (Takes kind count) t go =
     let S : Scan = scanned_from 0 (at + count) false (drop count text) in
     let rest : Cuts (at + count) false t.rest S.tokens S.refusal = rw (behind text t.part t.rest count t.cut t.count_is) (go false t.rest (at + count) (shorter text t.part t.rest count t.cut t.count_is t.some)) in
     takes t.cut t.is (token_is at kind count ∙ ap (λ n. record { kind = kind; at = bytes_at at n }) (sym t.count_is)) (subst (λ n. Cuts (at + n) false t.rest S.tokens S.refusal) (sym t.count_is) rest)
-after_cuts at fresh text (Fails fault from to) t go =
-    fails t.cut t.is (ap (λ (s : Span). record { what = number_of fault; at = s }) (rw t.to_is (rw t.from_is (span_is at (length t.before) (length t.bad)))))
+after_cuts at fresh text (Fails reason from to) t go =
+    fails t.cut t.is (ap (refusal_at reason) (rw t.to_is (rw t.from_is (span_is at (length t.before) (length t.bad)))))
 
 -- the scan of a text begins with its front
 pub at_front : (at : ℕ) (fresh : Bool) (text : List ℕ) → scanned_from 0 at fresh text ≡ after at text (front fresh text)

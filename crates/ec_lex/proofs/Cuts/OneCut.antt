@@ -4,19 +4,18 @@ use Rattle.std.specs.Prelude.{◌==◌}
 use Rattle.std.specs.List.{list_all}
 use Rattle.std.proofs.lemmas.Bool.{cond-true, cond-false, false_from_ne_true}
 use Rattle.std.proofs.lemmas.List.Prefix.{front_rest}
+use Rattle.ec_base.specs.declared.reason.Reason.{Reason}
+use Rattle.ec_base.specs.declared.reason.Reason.TheVariants.{BadNumber, OpenComment, OpenString, HashLine}
 use Rattle.ec_base.specs.declared.token.Token.{Token}
 use Rattle.ec_base.specs.declared.token.TokenKind.{TokenKind}
 use Rattle.ec_base.specs.declared.token.TokenKind.TheVariants.{End, Str}
-use Rattle.ec_base.specs.declared.token.Span.{Span}
-use Rattle.ec_lex.specs.declared.fault.LexRefusal.{LexRefusal}
-use Rattle.ec_lex.specs.declared.fault.Fault.{Fault}
-use Rattle.ec_lex.specs.declared.fault.Fault.TheVariants.{BadNumber, OpenComment, OpenString, HashLine}
+use Rattle.ec_lex.specs.declared.refusal.LexRefusal.{LexRefusal}
 use Rattle.ec_lex.specs.declared.front.Front.TheVariants.{Over, Skips, Takes, Fails}
 use Rattle.ec_lex.specs.declared.tokens.Scan.{Scan}
 use Rattle.ec_lex.specs.Bytes.{is_line_blank, is_blank, line_length, is_include}
 use Rattle.ec_lex.specs.Front.{front, IsFrontOf, comment, commented, comment_end, hash_line}
 use Rattle.ec_lex.specs.Scan.{scanned, scanned_from, put, token, span}
-use Rattle.ec_lex.specs.Tokens.{IsAll, is_within_line, fresh_after, IsInclude, IsSkipped, blank, line_comment, block_comment, include_line, IsSpelled, word, number, string, mark, IsFault, bad_byte, bad_number, open_comment, bad_inside, Cuts, over, skips, takes, fails, number_of, IsOnlyCut, TextsHaveACut, TextsHaveOneCut}
+use Rattle.ec_lex.specs.Tokens.{IsAll, is_within_line, fresh_after, IsInclude, IsSkipped, blank, line_comment, block_comment, include_line, IsSpelled, word, number, string, mark, IsFault, bad_byte, bad_number, open_comment, bad_inside, Cuts, over, skips, takes, fails, refusal_at, IsOnlyCut, TextsHaveACut, TextsHaveOneCut}
 use Rattle.ec_lex.specs.Tokens as spec
 use Rattle.ec_lex.proofs.Inside.Parts.{stale_behind, fresh_after-append, include_from, include_found}
 use Rattle.ec_lex.proofs.Inside.Comments.{comment_ends}
@@ -103,7 +102,7 @@ found_hash_line bad rest more is all none =
 from_zero : (n : ℕ) → n ≡ 0 + n
 from_zero n = omega arith
 
-found_fault : {fresh : Bool} {before bad rest : List ℕ} {fault : Fault} → IsFault fresh before bad rest fault → front fresh (before ++ (bad ++ rest)) ≡ Fails fault (length before) (length before + length bad)
+found_fault : {fresh : Bool} {before bad rest : List ℕ} {reason : Reason} → IsFault fresh before bad rest reason → front fresh (before ++ (bad ++ rest)) ≡ Fails reason (length before) (length before + length bad)
 found_fault (bad_byte {fresh = fresh} {b = b} {rest = rest} n) = found_bad_byte fresh b rest n
 found_fault (bad_number {fresh = fresh} {bad = bad} {rest = rest} all digit none) = found_bad_number fresh bad rest all digit none ∙ ap (Fails BadNumber 0) (from_zero (length bad))
 found_fault (open_comment {fresh = fresh} {bad = bad} {body = body} is none) =
@@ -112,12 +111,12 @@ found_fault (open_comment {fresh = fresh} {bad = bad} {body = body} is none) =
 found_fault (spec.open_string {fresh = fresh} {bad = bad} {line = line} {rest = rest} is all none) =
     let within : list_all is_within_line line ≡ true = subst (λ l. list_all is_within_line l ≡ true) is all.pass in
     ap (λ l. front fresh (l ++ rest)) is ∙ open_string fresh line rest within all.no_more none ∙ ap (Fails OpenString 0) (sym (ap length is) ∙ from_zero (length bad))
-found_fault (bad_inside {fresh = fresh} {before = before} {inside = inside} {bytes = bytes} {bad = bad} {after = behind} {rest = rest} {fault = fault} more is inner wrong ends closable) =
+found_fault (bad_inside {fresh = fresh} {before = before} {inside = inside} {bytes = bytes} {bad = bad} {after = behind} {rest = rest} {reason = reason} more is inner wrong ends closable) =
     let tail : List ℕ = codes "\"" ++ more in
     let joins : inside ++ (bad ++ (behind ++ tail)) ≡ (inside ++ (bad ++ behind)) ++ tail = sym (append_assoc inside (bad ++ behind) tail ∙ ap (λ l. inside ++ l) (append_assoc bad behind tail)) in
     let from : 1 + length inside ≡ length before = omega (arith, ap length is) in
-    ap₂ (λ x y. front fresh (x ++ (bad ++ y))) is ends ∙ ap (λ l. front fresh (34 ∷ l)) joins ∙ broken_string fresh inside bytes bad behind more fault inner wrong closable
-    ∙ ap (λ n. Fails fault n (n + length bad)) from
+    ap₂ (λ x y. front fresh (x ++ (bad ++ y))) is ends ∙ ap (λ l. front fresh (34 ∷ l)) joins ∙ broken_string fresh inside bytes bad behind more reason inner wrong closable
+    ∙ ap (λ n. Fails reason n (n + length bad)) from
 found_fault (spec.hash_line {fresh = fresh} {bad = bad} {rest = rest} is begins all none) =
     subst (λ f. front f (bad ++ rest) ≡ Fails HashLine 0 (0 + length bad)) (sym is) (found_hash_line bad rest begins.0 begins.1 all none ∙ ap (Fails HashLine 0) (from_zero (length bad)))
 
@@ -132,8 +131,8 @@ cut_is (takes {at = at} {fresh = fresh} {text = text} {part = part} {rest = rest
     ap (λ t. record { tokens = t ∷ tokens; refusal = refusal }) (first_is ∙ sym (token_is at kind (length part)))
     ∙ ap (put (token at kind (length part))) (cut_is more ∙ ap (scanned_from 0 (at + length part) false) (sym (front_rest text part rest cut)))
     ∙ ap (after at text) (sym (ap (front fresh) cut ∙ found_spelled fresh is)) ∙ sym (at_front at fresh text)
-cut_is (fails {at = at} {fresh = fresh} {text = text} {before = before} {bad = bad} {rest = rest} {fault = fault} cut is refused_is) =
-    ap (λ r. record { tokens = []; refusal = Some r }) (refused_is ∙ ap (λ (s : Span). record { what = number_of fault; at = s }) (sym (span_is at (length before) (length bad))))
+cut_is (fails {at = at} {fresh = fresh} {text = text} {before = before} {bad = bad} {rest = rest} {reason = reason} cut is refused_is) =
+    ap (λ r. record { tokens = []; refusal = Some r }) (refused_is ∙ ap (refusal_at reason) (sym (span_is at (length before) (length bad))))
     ∙ ap (after at text) (sym (ap (front fresh) cut ∙ found_fault is)) ∙ sym (at_front at fresh text)
 
 -- each text has a cut
@@ -166,10 +165,10 @@ at_end text before tokens last at fresh so_far is part last_is all =
     let now = so_far ∙ ap (joined before) (scanned_from-front at fresh (drop at text) Over is part) in
     scan_is text _ (ap (λ (l : List Token). record { tokens = l; refusal = None }) (all ∙ ap (λ (t : Token). before ++ t ∷ []) last_is) ∙ sym now)
 
-pub at_fault : (text : List ℕ) (before : List Token) (refusal : LexRefusal) (at : ℕ) (fresh : Bool) (fault : Fault) (from to : ℕ) → scanned text ≡ joined before (scanned_from 0 at fresh (drop at text))
-    → Fails fault from to ≡ front fresh (drop at text) → IsFrontOf (drop at text) (Fails fault from to) → refusal ≡ record { what = number_of fault; at = span at from to }
+pub at_fault : (text : List ℕ) (before : List Token) (refusal : LexRefusal) (at : ℕ) (fresh : Bool) (reason : Reason) (from to : ℕ) → scanned text ≡ joined before (scanned_from 0 at fresh (drop at text))
+    → Fails reason from to ≡ front fresh (drop at text) → IsFrontOf (drop at text) (Fails reason from to) → refusal ≡ refusal_at reason (span at from to)
     → IsScan text (record { tokens = before; refusal = Some refusal })
-at_fault text before refusal at fresh fault from to so_far is part refused_is =
-    let now = so_far ∙ ap (joined before) (scanned_from-front at fresh (drop at text) (Fails fault from to) is part) in
+at_fault text before refusal at fresh reason from to so_far is part refused_is =
+    let now = so_far ∙ ap (joined before) (scanned_from-front at fresh (drop at text) (Fails reason from to) is part) in
     let tokens = ap (λ (l : List Token). record { tokens = l; refusal = Some refusal }) (sym (append-nil before)) in
     scan_is text _ (tokens ∙ ap (λ (r : LexRefusal). record { tokens = before ++ []; refusal = Some r }) refused_is ∙ sym now)

@@ -27,7 +27,7 @@ abbrev pub after : (at : ℕ) → List ℕ → Front → Scan
 after at text Over = ended at
 after at text (Skips count fresh) = scanned_from 0 (at + count) fresh (drop count text)
 after at text (Takes kind count) = put (token at kind count) (scanned_from 0 (at + count) false (drop count text))
-after at text (Fails fault from to) = refused at fault from to
+after at text (Fails reason from to) = refused at reason from to
 
 goes_on : (at count : ℕ) (fresh : Bool) (b : ℕ) (rest : List ℕ) → 1 ≤ count → count ≤ length (b ∷ rest) → scanned_from (count - 1) (at + 1) fresh rest ≡ scanned_from 0 (at + count) fresh (drop count (b ∷ rest))
 goes_on at zero fresh b rest some within = absurd (omega arith)
@@ -39,7 +39,7 @@ fronted-after : (at : ℕ) (b : ℕ) (rest : List ℕ) (f : Front) → IsFrontOf
 fronted-after at b rest Over part = refl
 fronted-after at b rest (Skips count fresh) part = goes_on at count fresh b rest part.0 part.1
 fronted-after at b rest (Takes kind count) part = ap (put (token at kind count)) (goes_on at count false b rest part.0 part.1)
-fronted-after at b rest (Fails fault from to) part = refl
+fronted-after at b rest (Fails reason from to) part = refl
 
 -- one front at a time
 pub scanned_from-front : (at : ℕ) (fresh : Bool) (text : List ℕ) (f : Front) → f ≡ front fresh text → IsFrontOf text f → scanned_from 0 at fresh text ≡ after at text f

@@ -4,7 +4,7 @@ use Rattle.ec_base.specs.declared.limits.TheConstants.{MAX_SOURCE}
 use Rattle.ec_base.specs.declared.token.Token.{Token}
 use Rattle.ec_base.specs.declared.token.TokenKind.{TokenKind}
 use Rattle.ec_base.specs.Lexical.{AllLexical, AreTokens, Rises, last, next, is_end}
-use Rattle.ec_lex.specs.declared.fault.LexRefusal.{LexRefusal}
+use Rattle.ec_lex.specs.declared.refusal.LexRefusal.{LexRefusal}
 use Rattle.ec_lex.specs.Tokens.{Cuts, over, skips, takes, fails, IsSpelled, word, number, string, mark}
 use Rattle.ec_lex.proofs.AtFront.Told.{Tells, Taken}
 use Rattle.ec_lex.proofs.AtFront.Fronts.{front_tells}

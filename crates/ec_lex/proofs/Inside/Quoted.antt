@@ -2,10 +2,10 @@
 use Rattle.std.proofs.Common.{◌≡◌, ℕ, ◌+◌, Bool, true, false, not, List, [], ◌∷◌, ◌++◌, length, Option, Some, None, refl, ap, sym, subst, ◌∙◌, arith, inl, inr}
 use Rattle.std.specs.Prelude.{◌||◌, ◌==◌, ◌⊎◌, if◌then◌else◌}
 use Rattle.std.proofs.lemmas.Bool.{cond_both, eqb-true, false≢true, true≢false, or_cases}
+use Rattle.ec_base.specs.declared.reason.Reason.{Reason}
+use Rattle.ec_base.specs.declared.reason.Reason.TheVariants.{BadByte, BadEscape}
 use Rattle.ec_lex.specs.Bytes.{is_control}
 use Rattle.ec_lex.specs.Strings.{closing, decoded, followed, put_byte}
-use Rattle.ec_lex.specs.declared.fault.Fault.{Fault}
-use Rattle.ec_lex.specs.declared.fault.Fault.TheVariants.{BadByte, BadEscape}
 use Rattle.ec_lex.specs.declared.strings.Piece.{Piece}
 use Rattle.ec_lex.specs.declared.strings.Piece.TheVariants.{Backslash, Byte, Bad}
 use Rattle.ec_lex.specs.declared.strings.Decoded.{Decoded}
@@ -96,25 +96,25 @@ closes true at (b ∷ text) =
 
 -- ---- what its inside stands for
 
-pub record Broke (at : ℕ) (inside : List ℕ) (fault : Fault) (from to : ℕ) : Type 0 where
+pub record Broke (at : ℕ) (inside : List ℕ) (reason : Reason) (from to : ℕ) : Type 0 where
   pub done : List ℕ
   pub bytes : List ℕ
   pub bad : List ℕ
   pub after : List ℕ
   pub cut : inside ≡ done ++ (bad ++ after)
   pub good : IsInside done bytes
-  pub wrong : IsBad bad fault
+  pub wrong : IsBad bad reason
   pub closable : IsClosable after
   pub from_is : from ≡ at + length done
   pub to_is : to ≡ from + length bad
 
 abbrev pub Decodes : ℕ → List ℕ → Decoded → Type 0
 Decodes at inside (Whole bytes) = IsInside inside bytes
-Decodes at inside (Broken fault from to) = Broke at inside fault from to
+Decodes at inside (Broken reason from to) = Broke at inside reason from to
 
 put_plain : (at b : ℕ) (inside : List ℕ) (d : Decoded) → is_plain b ≡ true → is_control b ≡ false → Decodes (at + 1) inside d → Decodes at (b ∷ inside) (put_byte b d)
 put_plain at b inside (Whole bytes) p c h = plain p c h
-put_plain at b inside (Broken fault from to) p c h = record {
+put_plain at b inside (Broken reason from to) p c h = record {
   done = b ∷ h.done;
   bytes = b ∷ h.bytes;
   bad = h.bad;
@@ -129,7 +129,7 @@ put_plain at b inside (Broken fault from to) p c h = record {
 
 put_escape : (at e b : ℕ) (inside : List ℕ) (d : Decoded) → IsEscape e b → Decodes (at + 1 + 1) inside d → Decodes at (92 ∷ (e ∷ inside)) (put_byte b d)
 put_escape at e b inside (Whole bytes) s h = escape s h
-put_escape at e b inside (Broken fault from to) s h = record {
+put_escape at e b inside (Broken reason from to) s h = record {
   done = 92 ∷ (e ∷ h.done);
   bytes = b ∷ h.bytes;
   bad = h.bad;

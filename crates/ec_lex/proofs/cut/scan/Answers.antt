@@ -50,5 +50,5 @@ returns-in-Fails c =
     let value = rw (take_rest text at) at (sym c.in-Fails.is ∙ c.in_ok-read_front.ensures.value) in
     let P : Front → Type 0 = IsFrontOf (drop at text) in
     let part = subst P c.in-Fails.is (rw (take_rest text at) at c.in_ok-read_front.ensures.part) in
-    let is = at_fault text c.loop-tokens.tokens c.refusal.result at c.loop-tokens.fresh c.in-Fails.fault c.in-Fails.from c.in-Fails.to c.loop-tokens.invariant.0 value part c.refusal.ensures in
+    let is = at_fault text c.loop-tokens.tokens c.refusal.result at c.loop-tokens.fresh c.in-Fails.reason c.in-Fails.from c.in-Fails.to c.loop-tokens.invariant.0 value part c.refusal.ensures in
     record { cuts = is.cuts; only = is.only; lexical = c.loop-tokens.invariant.2 }
