@@ -62,7 +62,8 @@ impl<'a> Cursor<'a> {
     #[cycle(expression)]
     #[tactic(auto, using(crate::proofs::Parts::Rooms::inside_some, crate::proofs::Parts::Rooms::inside_none))]
     fn nested_arguments(&mut self, alloc: Global, room: u32) -> Result<List<Expr>, Fail<Fault>>
-        ensures answer { Told (inside room begins_arguments (arguments (expr_of (unary room))) self.old) result self.new }
+        ensures answer { Told
+            (inside room begins_arguments (arguments (expr_of (unary room))) self.old) result self.new }
         ensures stays { length self.new.left ≤ length self.old.left }
     {
         if room == 0 {

@@ -1,5 +1,6 @@
-//! Statements that hold others. `room` is that for what they hold, but for `statement`, which stands where so much room is.
-ghost use Rattle.std.specs.Prelude.{◌≡◌, ◌≤◌, ◌<◌, suc, [], length, OnOk};
+//! Statements that hold others. `room` is that for what they hold, but for `statement` and `bare_statement`,
+//! which stand where so much room is.
+ghost use Rattle.std.specs.Prelude.{◌≡◌, ◌≤◌, ◌<◌, ◌-◌, suc, [], length, OnOk};
 ghost use Rattle.ec_syntax.specs.declared.quantity.Quantity.TheVariants.{Branches};
 ghost use Rattle.ec_syntax.specs.Descent.Reader.{inside, turns, kth};
 ghost use Rattle.ec_syntax.specs.Descent.Tokens.{begins_stmt};
@@ -28,11 +29,10 @@ impl<'a> Cursor<'a> {
         if room == 0 {
             return Err(Fail::Refused(too_deep(self.begins_stmt())));
         }
-        let below = room - 1;
         if self.is_mark(Mark::OpenBrace) {
-            self.block(alloc, below)
+            self.block(alloc, room - 1)
         } else {
-            self.bare_statement(alloc, below)
+            self.bare_statement(alloc, room)
         }
     }
 
@@ -72,7 +72,8 @@ impl<'a> Cursor<'a> {
     #[cycle(statement)]
     #[tactic(auto, using(crate::proofs::Parts::Rooms::inside_some, crate::proofs::Parts::Rooms::inside_none))]
     fn contents(&mut self, alloc: Global, room: u32) -> Result<Body, Fail<Fault>>
-        ensures answer { Told (inside room begins_contents (contents (expr room) (stmt room)) self.old) result self.new }
+        ensures answer { Told
+            (inside room begins_contents (contents (expr room) (stmt room)) self.old) result self.new }
         ensures stays { length self.new.left ≤ length self.old.left }
     {
         if room == 0 {
@@ -269,24 +270,25 @@ impl<'a> Cursor<'a> {
         Ok(self.statement_from(alloc, from, kind)?)
     }
 
-    /// Reads a statement that isn't in braces.
+    /// Reads a statement that isn't in braces, where so much room is.
     #[cycle(statement)]
     fn bare_statement(&mut self, alloc: Global, room: u32) -> Result<Boxed<Stmt>, Fail<Fault>>
-        requires { room < 4294967295 }
-        ensures answer { Told (bare room (stmt room) self.old) result self.new }
+        requires { 0 < room }
+        ensures answer { Told (bare (room - 1) (stmt (room - 1)) self.old) result self.new }
         ensures takes { OnOk result (length self.new.left < length self.old.left) }
         ensures stays { length self.new.left ≤ length self.old.left }
     {
+        let below = room - 1;
         if self.is_mark(Mark::OpenPar) {
-            self.parallel_statement(alloc, room)
+            self.parallel_statement(alloc, below)
         } else if self.is_word(b"if") {
-            self.if_statement(alloc, room)
+            self.if_statement(alloc, below)
         } else if self.is_word(b"while") {
-            self.while_statement(alloc, room)
+            self.while_statement(alloc, below)
         } else if self.is_word(b"for") {
-            self.for_statement(alloc, room)
+            self.for_statement(alloc, below)
         } else if self.is_word(b"forall") {
-            self.forall_statement(alloc, room)
+            self.forall_statement(alloc, below)
         } else {
             self.simple_statement(alloc, room)
         }

@@ -136,7 +136,8 @@ impl<'a> Cursor<'a> {
 
     /// Counts one more variable of a function.
     pub(crate) fn count_variable(&mut self) -> Result<(), Fault>
-        ensures answer { Counted Variables MAX_VARIABLES self.old.variables (with_variable self.old) self.old result self.new }
+        ensures answer { Counted Variables MAX_VARIABLES
+            self.old.variables (with_variable self.old) self.old result self.new }
         ensures stays { self.new.left ≡ self.old.left }
     {
         if self.variables >= MAX_VARIABLES {
@@ -148,7 +149,8 @@ impl<'a> Cursor<'a> {
 
     /// Counts one more function.
     pub(crate) fn count_function(&mut self) -> Result<(), Fault>
-        ensures answer { Counted Functions MAX_FUNCTIONS self.old.functions (with_function self.old) self.old result self.new }
+        ensures answer { Counted Functions MAX_FUNCTIONS
+            self.old.functions (with_function self.old) self.old result self.new }
         ensures stays { self.new.left ≡ self.old.left }
     {
         if self.functions >= MAX_FUNCTIONS {

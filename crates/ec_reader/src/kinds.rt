@@ -28,7 +28,8 @@ pub(crate) fn is_word(token: &Token, word: &[u8]) -> bool
 
 /// The name that a token is.
 pub(crate) fn name_of(token: &Token) -> Option<&Text>
-    ensures { MatchOption result (name_of token.now ≡ None) (λ w. name_of token.now ≡ Some (record { text = w.now; at = token.now.at })) }
+    ensures { MatchOption result (name_of token.now ≡ None)
+        (λ w. name_of token.now ≡ Some (record { text = w.now; at = token.now.at })) }
 {
     match &token.kind {
         TokenKind::Word(word) => { if is_reserved(word) { None } else { Some(word) } }

@@ -88,7 +88,8 @@ impl<'a> Cursor<'a> {
     #[cycle(expression)]
     #[tactic(auto, using(crate::proofs::Parts::Rooms::inside_some, crate::proofs::Parts::Rooms::inside_none))]
     fn nested_amount(&mut self, alloc: Global, room: u32) -> Result<Amount, Fail<Fault>>
-        ensures answer { ToldBy amount_of (inside room begins_amount (amount (less room) (unary room)) self.old) result self.new }
+        ensures answer { ToldBy amount_of
+            (inside room begins_amount (amount (less room) (unary room)) self.old) result self.new }
         ensures stays { length self.new.left ≤ length self.old.left }
     {
         if room == 0 {

@@ -1,5 +1,5 @@
 //! Simple statements. `room` is that for nesting below them.
-ghost use Rattle.std.specs.Prelude.{◌≡◌, ◌≤◌, ◌<◌, suc, [], length, OnOk, IfOk};
+ghost use Rattle.std.specs.Prelude.{◌≡◌, ◌≤◌, ◌<◌, ◌-◌, suc, [], length, OnOk, IfOk};
 ghost use Rattle.ec_base.specs.declared.token.Mark.TheVariants as m;
 ghost use Rattle.ec_syntax.specs.declared.quantity.Quantity.TheVariants.{Arguments};
 ghost use Rattle.ec_syntax.specs.Grammar.Language.{span};
@@ -280,8 +280,8 @@ impl<'a> Cursor<'a> {
         Ok(self.statement_from(alloc, from, StmtKind::Set(assign))?)
     }
 
-    /// Reads the rest of a call that stands alone, or of an assignment, behind the call or the left side, which begins at this
-    /// place.
+    /// Reads the rest of a call that stands alone, or of an assignment, behind the call or the left side, which begins at
+    /// this place.
     fn action_from(
         &mut self,
         alloc: Global,
@@ -335,27 +335,28 @@ impl<'a> Cursor<'a> {
         }
     }
 
-    /// Reads a simple statement.
+    /// Reads a simple statement, where so much room is.
     pub(crate) fn simple_statement(
         &mut self,
         alloc: Global,
         room: u32,
     ) -> Result<Boxed<Stmt>, Fail<Fault>>
-        requires { room < 4294967295 }
-        ensures answer { Told (simple room self.old) result self.new }
+        requires { 0 < room }
+        ensures answer { Told (simple (room - 1) self.old) result self.new }
         ensures takes { OnOk result (length self.new.left < length self.old.left) }
         ensures stays { length self.new.left ≤ length self.old.left }
     {
+        let below = room - 1;
         if self.is_mark(Mark::Semicolon) {
             self.empty_statement(alloc)
         } else if self.is_word(b"writeto") {
-            self.write_statement(alloc, room)
+            self.write_statement(alloc, below)
         } else if self.is_word(b"addto") {
-            self.add_statement(alloc, room)
+            self.add_statement(alloc, below)
         } else if self.is_word(b"printf") {
-            self.print_statement(alloc, room)
+            self.print_statement(alloc, below)
         } else {
-            self.return_or_action(alloc, room + 1)
+            self.return_or_action(alloc, room)
         }
     }
 }

@@ -1,5 +1,5 @@
 -- A statement where so much room is.
-use Rattle.std.proofs.Common.{◌≡◌, refl, sym, ◌∙◌, ap, subst, ℕ, suc, ◌+◌, Bool, true, false, codes, Result, arith}
+use Rattle.std.proofs.Common.{◌≡◌, refl, sym, ◌∙◌, ap, subst, ℕ, suc, ◌<◌, ◌-◌, Bool, true, false, codes, Result, arith}
 use Rattle.ec_base.specs.declared.token.Mark.TheVariants as m
 use Rattle.ec_syntax.specs.Grammar.State.{State}
 use Rattle.ec_syntax.specs.Grammar.Language.{first_is}
@@ -32,11 +32,11 @@ module _ (s : State) where
 
   -- behind the other simple statements
   pub simple_longer :
-      (room : ℕ) → first_is (is_mark m.Semicolon) s.left ≡ false → first_is (is_word (codes "writeto")) s.left ≡ false →
+      (room : ℕ) → 0 < room → first_is (is_mark m.Semicolon) s.left ≡ false → first_is (is_word (codes "writeto")) s.left ≡ false →
       first_is (is_word (codes "addto")) s.left ≡ false → first_is (is_word (codes "printf")) s.left ≡ false →
-      return_or_action (room + 1) s ≡ simple room s
-  simple_longer room mark writes adds prints =
-      let next : room + 1 ≡ suc room = omega arith in
+      return_or_action room s ≡ simple (room - 1) s
+  simple_longer room some mark writes adds prints =
+      let next : room ≡ suc (room - 1) = omega (arith, some) in
       ap (λ k. return_or_action k s) next ∙ sym (rw (mark, writes, adds, prints) refl)
 
 when_true : {A : Type 0} (test : Token → Bool) (p q : Reader A) (s : State) → first_is test s.left ≡ true → when test p q s ≡ p s

@@ -1,4 +1,4 @@
-use Rattle.std.proofs.Common.{◌≤◌, ◌+◌, ◌*◌, [], length}
+use Rattle.std.proofs.Common.{◌≤◌, ◌+◌, ◌-◌, ◌*◌, [], length}
 use Rattle.ec_syntax.specs.Descent.Reader.{turns}
 use Rattle.ec_syntax.specs.Descent.Tokens.{begins_stmt}
 use Rattle.ec_syntax.specs.Descent.Statements.{branch, stmt}
@@ -55,7 +55,7 @@ abbrev pub decreases-forall_statement : goal.decreases-forall_statement
 decreases-forall_statement l = 16 * l.room + 7
 
 abbrev pub decreases-bare_statement : goal.decreases-bare_statement
-decreases-bare_statement l = 16 * l.room + 9
+decreases-bare_statement l = 16 * (l.room - 1) + 9
 
 abbrev pub invariant-sequence-loop-alloc : goal.invariant-sequence-loop-alloc
 invariant-sequence-loop-alloc l = record {
