@@ -6,10 +6,8 @@ pub mod Tokens
 pub mod Marks
 pub mod Lists
 pub mod Types
--- folds over trees, case by case
-pub mod Trees
+-- what is said of trees, case by case
 pub mod Folds
-pub mod StatementTrees
 -- expressions
 pub mod Levels
 pub mod Calls

@@ -49,7 +49,12 @@ spelling m.Greater = codes ">"
 
 -- a byte of a string: `\n`, `\t`, `\\` and `\"` stand for LF, tab, `\` and `"`
 abbrev pub escape : ℕ → List ℕ
-escape b = if b == 10 then codes "\\n" else (if b == 9 then codes "\\t" else (if b == 92 then codes "\\\\" else (if b == 34 then codes "\\\"" else b ∷ [])))
+escape b =
+    if b == 10 then codes "\\n"
+    else (if b == 9 then codes "\\t"
+    else (if b == 92 then codes "\\\\"
+    else (if b == 34 then codes "\\\""
+    else b ∷ [])))
 
 abbrev pub escaped : List ℕ → List ℕ
 escaped [] = []

@@ -9,8 +9,8 @@ use Rattle.ec_syntax.specs.Grammar.Reading.{Reads}
 use Rattle.ec_print.specs.Canonical.{canonical}
 use Rattle.ec_print.specs.Unplaced.{unplaced}
 
--- The canonical text of a program that was read from a text has no refusal, and its tokens are read as that program, but
--- for the places. They are the tokens of a whole text where it isn't too long for one.
+-- The canonical text of a program that was read from a text has no refusal, and its tokens are read as that program,
+-- but for the places. They are the tokens of a whole text where it isn't too long for one.
 abbrev pub PrintedIsReadAgain : Type 0
 PrintedIsReadAgain =
     (tokens : List Token) (p : Program) → AreTokens tokens → Reads tokens p →

@@ -1,6 +1,6 @@
--- The sentence of a program: its tokens in the order of the grammar, but for the end of the text. Each variable and each
--- field is declared by itself, and what was read from `i++` is written as the assignment that it is. Expressions and
--- statements are folds: a part of a layer stands for its own phrase.
+-- The sentence of a program: its tokens in the order of the grammar, but for the end of the text. Each variable and
+-- each field is declared by itself, and what was read from `i++` is written as the assignment that it is. Expressions
+-- and statements are folds: a part of a layer stands for its own phrase.
 use Rattle.std.specs.Prelude.{ℕ, zero, suc, ℤ, List, [], ◌∷◌, map, codes, Option, Some, None}
 use Rattle.ec_base.specs.declared.operator.BinOp.{BinOp}
 use Rattle.ec_base.specs.declared.operator.BinOp.TheVariants as op

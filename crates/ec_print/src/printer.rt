@@ -9,8 +9,8 @@ use itoa::Buffer;
 use std::alloc::{AllocError, Global};
 use std::marker::Model;
 
-/// The text of tokens so far, and how many parentheses are open at its end. Behind each token stands a space, or a line feed
-/// where it ends a line.
+/// The text of tokens so far, and how many parentheses are open at its end. Behind each token stands a space, or a line
+/// feed where it ends a line.
 #[derive(Drop)]
 pub(crate) struct Printer {
     text: Text,

@@ -14,3 +14,7 @@ pub mod Items
 pub mod EndOfText
 -- so tokens have one tree, or one of them is refused; examples
 pub mod Verdicts
+-- folds over trees
+pub mod Folds
+-- where the parts of a program stand
+pub mod Places

@@ -10,7 +10,7 @@ mod statement;
 
 pub use expression::{Call, Expr, ExprKind, Placement};
 pub use item::{Field, Func, Item, Program, StructDef};
-pub use laws::{reading_decides, texts_are_decided};
+pub use laws::{parts_stand_in_order, reading_decides, texts_are_decided};
 pub use name::{Base, Mode, Name, Ty};
 pub use quantity::{Fault, Quantity};
 pub use statement::{Assign, Body, Decl, Stmt, StmtKind};

@@ -29,7 +29,7 @@ use Rattle.ec_print.proofs.Again.Calls.{Mirrors}
 use Rattle.ec_print.proofs.Again.Expressions.{unary_again, expr_again}
 use Rattle.ec_print.proofs.Again.Folds.{said}
 use Rattle.ec_print.proofs.Again.Steps.{the_step, behind_marks}
-use Rattle.ec_print.proofs.Again.Trees as tree
+use Rattle.ec_syntax.proofs.Folds.Expressions as tree
 
 -- ---- names
 

@@ -26,7 +26,7 @@ use Rattle.ec_print.proofs.Again.Lists.{Each, joined_again}
 use Rattle.ec_print.proofs.Again.Calls.{Mirrors}
 use Rattle.ec_print.proofs.Again.Declarations.{declarations_again}
 use Rattle.ec_print.proofs.Again.Simple.{phrase, statement_again, same_length}
-use Rattle.ec_print.proofs.Again.StatementTrees as tree
+use Rattle.ec_syntax.proofs.Folds.Statements as tree
 
 abbrev pub Statements : Language Stmt → Language Stmt → Type 0
 Statements l l' = Mirrors false S.statement U.statement l l'

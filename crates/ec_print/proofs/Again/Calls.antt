@@ -19,7 +19,7 @@ use Rattle.ec_print.proofs.Again.Rules.{Repeats, settled, made}
 use Rattle.ec_print.proofs.Again.Lists.{listed_again}
 use Rattle.ec_print.proofs.Again.Levels.{Operands}
 use Rattle.ec_print.proofs.Again.Folds.{owner_alike, node_alike}
-use Rattle.ec_print.proofs.Again.Trees as tree
+use Rattle.ec_syntax.proofs.Folds.Expressions as tree
 
 -- ---- brackets
 

@@ -24,7 +24,7 @@ use Rattle.ec_print.proofs.Again.Levels.{Operands, levels_again, spoken}
 use Rattle.ec_print.proofs.Again.Calls.{Mirrors, bracketed_again}
 use Rattle.ec_print.proofs.Again.Primary.{call_expression_again, malloc_again}
 use Rattle.ec_print.proofs.Again.Folds.{phrase, said, seen, expression_again, paren_alike, unary_alike, deref_alike, valueof_alike, index_alike, arrow_alike, dot_alike}
-use Rattle.ec_print.proofs.Again.Trees as tree
+use Rattle.ec_syntax.proofs.Folds.Expressions as tree
 
 -- ---- what operands begin with
 

@@ -21,7 +21,7 @@ use Rattle.ec_print.specs.Sentence as S
 use Rattle.ec_print.specs.Unplaced as U
 use Rattle.ec_print.proofs.Again.Readings.{as_kinds}
 use Rattle.ec_print.proofs.Again.Rules.{Repeats, settled, placed_again, without_place}
-use Rattle.ec_print.proofs.Again.Trees as tree
+use Rattle.ec_syntax.proofs.Folds.Expressions as tree
 
 -- the phrase of what an expression is
 abbrev pub phrase : ExprKind → Phrase

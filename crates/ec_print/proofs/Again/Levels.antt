@@ -21,7 +21,7 @@ use Rattle.ec_print.proofs.Again.Readings.{Kinds, as_kinds, behind}
 use Rattle.ec_print.proofs.Again.Marks.{operator_again}
 use Rattle.ec_print.proofs.Again.Rules.{Repeats, Grows, settled, made, turns_again}
 use Rattle.ec_print.proofs.Again.Folds.{phrase, said, seen, binary_alike, and_alike, or_alike}
-use Rattle.ec_print.proofs.Again.Trees as tree
+use Rattle.ec_syntax.proofs.Folds.Expressions as tree
 
 -- what is made of two operands is written with this mark between them
 pub record Infixed (k : Mark) (make : Expr → Expr → ExprKind) : Type 0 where

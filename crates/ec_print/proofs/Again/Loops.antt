@@ -22,7 +22,7 @@ use Rattle.ec_print.proofs.Again.Levels.{Operands}
 use Rattle.ec_print.proofs.Again.Calls.{Mirrors}
 use Rattle.ec_print.proofs.Again.Bodies.{Statements, header_again, test_again}
 use Rattle.ec_print.proofs.Again.Simple.{phrase}
-use Rattle.ec_print.proofs.Again.StatementTrees as tree
+use Rattle.ec_syntax.proofs.Folds.Statements as tree
 
 -- ---- while
 

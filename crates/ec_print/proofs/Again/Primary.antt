@@ -25,7 +25,7 @@ use Rattle.ec_print.proofs.Again.Types.{type_again, pointer_again}
 use Rattle.ec_print.proofs.Again.Levels.{Operands, levels_again}
 use Rattle.ec_print.proofs.Again.Calls.{Mirrors, bracketed_again, arguments_again, place_again}
 use Rattle.ec_print.proofs.Again.Folds.{phrase, said, seen, new_image, called_image, called_said, call_alike}
-use Rattle.ec_print.proofs.Again.Trees as tree
+use Rattle.ec_syntax.proofs.Folds.Expressions as tree
 
 -- ---- calls
 

@@ -27,7 +27,7 @@ use Rattle.ec_print.proofs.Again.Calls.{Mirrors, bracketed_again}
 use Rattle.ec_print.proofs.Again.Primary.{call_again}
 use Rattle.ec_print.proofs.Again.Expressions.{expr_again}
 use Rattle.ec_print.proofs.Again.Assignments.{assignment_again}
-use Rattle.ec_print.proofs.Again.StatementTrees as tree
+use Rattle.ec_syntax.proofs.Folds.Statements as tree
 
 -- the phrase of what a statement is
 abbrev pub phrase : StmtKind → Phrase

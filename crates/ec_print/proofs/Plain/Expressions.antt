@@ -23,7 +23,7 @@ use Rattle.ec_print.proofs.Again.Readings.{Kinds}
 use Rattle.ec_print.proofs.Again.Expressions.{prefixed}
 use Rattle.ec_print.proofs.Again.Folds.{phrase, said, called_said}
 use Rattle.ec_print.proofs.Again.Levels.{infixed}
-use Rattle.ec_print.proofs.Again.Trees as tree
+use Rattle.ec_syntax.proofs.Folds.Expressions as tree
 use Rattle.ec_print.proofs.Plain.Rules.{Spelt, Spells, weaker, spelt, either, never_spelt, behind, ends, looked, given, perhaps, placed_spelt, turned}
 use Rattle.ec_print.proofs.Plain.Tokens.{mark_spelt, word_spelt, operator_spelt, name_spelt, number_spelt, type_spelt, pointer_spelt, bracketed_spelt, some_spelt}
 

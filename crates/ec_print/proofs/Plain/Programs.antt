@@ -1,5 +1,5 @@
 -- Programs: the plain tokens of which they are read are their sentences.
-use Rattle.std.proofs.Common.{◌≡◌, refl, sym, ◌∙◌, ap, ap₂, subst, inl, inr, true≢false, ℕ, List, [], ◌∷◌, ◌++◌, map, length, append_assoc, append-nil, codes, true, None}
+use Rattle.std.proofs.Common.{◌≡◌, refl, sym, ◌∙◌, ap, ap₂, subst, inl, inr, true≢false, ℕ, List, [], ◌∷◌, ◌++◌, map, length, append_assoc, append-nil, codes, None}
 use Rattle.ec_base.specs.declared.token.Mark.TheVariants as m
 use Rattle.ec_base.specs.declared.token.TokenKind.TheVariants as t
 use Rattle.ec_syntax.specs.Grammar.Expressions as E

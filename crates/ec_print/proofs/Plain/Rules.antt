@@ -1,6 +1,5 @@
 -- Where plain tokens are read as a value, they are the tokens of its phrase. These rules say so of the grammar's combinators.
 use Rattle.std.proofs.Common.{◌≡◌, ◌<◌, refl, sym, ◌∙◌, ap, subst, inl, inr, arith, ℕ, Bool, [], ◌∷◌, ◌++◌, append_assoc, append-nil, Option, Some, None}
-use Rattle.ec_base.specs.declared.token.Mark.{Mark}
 use Rattle.ec_base.specs.declared.token.Mark.TheVariants as m
 use Rattle.ec_base.specs.declared.token.Span.{Span}
 use Rattle.ec_base.specs.declared.token.Token.{Token}

@@ -1,5 +1,5 @@
 -- Declarations and statements: the plain tokens of which they are read are those of their phrases.
-use Rattle.std.proofs.Common.{◌≡◌, refl, sym, ◌∙◌, ap, ap₂, ℕ, ◌+◌, zero, suc, List, [], ◌∷◌, ◌++◌, map, length, append_assoc, codes, Some}
+use Rattle.std.proofs.Common.{◌≡◌, refl, sym, ◌∙◌, ap, ap₂, ℕ, zero, suc, List, [], ◌∷◌, ◌++◌, map, length, append_assoc, codes, Some}
 use Rattle.ec_base.specs.declared.token.Mark.TheVariants as m
 use Rattle.ec_base.specs.declared.token.TokenKind.TheVariants as t
 use Rattle.ec_syntax.specs.Grammar.Expressions as E
@@ -25,7 +25,7 @@ use Rattle.ec_print.specs.Sentence as S
 use Rattle.ec_print.proofs.Again.Readings.{Kinds}
 use Rattle.ec_print.proofs.Again.Lists.{joins-snoc}
 use Rattle.ec_print.proofs.Again.Simple.{phrase, said}
-use Rattle.ec_print.proofs.Again.StatementTrees as tree
+use Rattle.ec_syntax.proofs.Folds.Statements as tree
 use Rattle.ec_print.proofs.Plain.Rules.{Spelt, Spells, weaker, spelt, either, never_spelt, behind, ends, given, perhaps, part_spelt, kth_spelt, lacks_spelt, placed_spelt, turned, no_comma, no_increment, no_decrement}
 use Rattle.ec_print.proofs.Plain.Tokens.{mark_spelt, word_spelt, no_mark, name_spelt, string_spelt, value_base_spelt, mode_spelt, stars_spelt, brackets_spelt, header_spelt, bracketed_spelt, sequence_spelt, commas_spelt}
 use Rattle.ec_print.proofs.Plain.Expressions.{Fine, call_spelt, unary_spelt, expr_spelt}

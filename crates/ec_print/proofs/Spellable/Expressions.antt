@@ -19,7 +19,7 @@ use Rattle.ec_print.proofs.Again.Expressions.{prefixed}
 use Rattle.ec_print.proofs.Again.Folds.{phrase, said, called_said}
 use Rattle.ec_print.proofs.Again.Levels.{infixed}
 use Rattle.ec_print.proofs.Again.Marks.{anything}
-use Rattle.ec_print.proofs.Again.Trees as tree
+use Rattle.ec_syntax.proofs.Folds.Expressions as tree
 use Rattle.ec_print.proofs.Spellable.Rules.{Spellable, spellable_as, listed_spellable, Yields, looked, given, behind, as_good, made, either, never_yields, perhaps, placed_yields, turned, token_yields}
 use Rattle.ec_print.proofs.Spellable.Tokens.{operator_yields, number_yields, some_name_yields, type_yields, pointer_yields, bracketed_yields, commas_yield}
 

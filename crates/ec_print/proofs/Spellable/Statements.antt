@@ -25,8 +25,8 @@ use Rattle.ec_print.specs.Sentence as S
 use Rattle.ec_print.proofs.Again.Assignments.{var_said, one_said}
 use Rattle.ec_print.proofs.Again.Folds.{said as expression_said}
 use Rattle.ec_print.proofs.Again.Simple.{phrase, said}
-use Rattle.ec_print.proofs.Again.StatementTrees as tree
-use Rattle.ec_print.proofs.Again.Trees as expression_tree
+use Rattle.ec_syntax.proofs.Folds.Statements as tree
+use Rattle.ec_syntax.proofs.Folds.Expressions as expression_tree
 use Rattle.ec_print.proofs.Spellable.Rules.{Spellable, AllSpellable, spellable_as, one_more, further_spellable, Yields, given, behind, made, either, never_yields, perhaps, part_yields, kth_yields, lacks_yields, placed_yields, turned, token_yields}
 use Rattle.ec_print.proofs.Spellable.Tokens.{Named, string_yields, some_name_yields, value_base_yields, mode_yields, stars_spellable, stars_yield, bracketed_yields, commas_yield, sequence_yields}
 use Rattle.ec_print.proofs.Spellable.Expressions.{Fine, call_yields, unary_yields, expr_yields}

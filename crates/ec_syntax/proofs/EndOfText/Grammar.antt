@@ -28,7 +28,7 @@ use Rattle.ec_syntax.proofs.EndOfText.Inside.{Inner, Inside, inner_look, inner_b
 -- ---- tokens
 
 -- what picks nothing of the end
-inside_of : {A : Type 0} (pick : Token → Option A) → ((x : Token) → x.kind ≡ t.End → pick x ≡ None) → Inside pick
+pub inside_of : {A : Type 0} (pick : Token → Option A) → ((x : Token) → x.kind ≡ t.End → pick x ≡ None) → Inside pick
 inside_of pick e x a h = by x.kind refl
   where
     none : x.kind ≡ t.End → is_end x ≡ false
