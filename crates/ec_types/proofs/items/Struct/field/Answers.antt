@@ -1,0 +1,16 @@
+use Rattle.std.proofs.Common.{◌∙◌, ap, slice_get}
+use Rattle.ec_types.proofs.ArgumentLists.{found}
+use Rattle.ec_types.proofs.Places.{none_named, some_named}
+use Rattle.ec_types.proofs.items.Struct.field.Goals as goal
+
+pub returns-in-None : goal.returns-in-None
+returns-in-None c =
+    none_named (λ x. x.name.text) c.self.inside.def.now.fields c.args.self.now.fields c.self.inside.names c.args.name.now c.place.result
+    c.self.invariant (ap (λ s. s.fields) c.self.view_is) c.place.ensures c.in-None.is
+
+pub returns-in-Some : goal.returns-in-Some
+returns-in-Some c =
+    found c.as_slice.result.now c.in-Some.at c.get.result (c.get.ensures.lookup).3
+    ∙ ap (λ l. slice_get l c.in-Some.at) c.as_slice.ensures
+    ∙ some_named (λ x. x.name.text) c.self.inside.def.now.fields c.args.self.now.fields c.self.inside.names c.args.name.now c.place.result c.in-Some.at
+    c.self.invariant (ap (λ s. s.fields) c.self.view_is) c.place.ensures c.in-Some.is
