@@ -15,8 +15,8 @@ use Rattle.ec_driver.specs.Command.{told_command}
 use Rattle.ec_driver.specs.Ending.{Ending, Reports, Sinks, stop}
 use Rattle.ec_driver.specs.Kept.{Runs}
 use Rattle.ec_driver.specs.Load.{Unread}
-use Rattle.ec_driver.specs.Once.{AcceptedIsNotRefused, ProgramIsNoMisfit, SourcesAreRefusedOnce}
-use Rattle.ec_driver.specs.Source.{IsProgram, IsSmall, Misfits, Rejects}
+use Rattle.ec_driver.specs.Once.{AreRefusedOnce}
+use Rattle.ec_driver.specs.Source.{IsChecked, IsProgram, IsSmall, Misfits, Rejects, Unchecked}
 use Rattle.ec_driver.specs.Status.{IsOfOrFails, IsOrFails, ReadsAs, done, failed, kind_of}
 use Rattle.ec_driver.specs.Task.{AcceptsTold, Checks, Does, Ends, HoldTexts, IsRefusal, IsText, MayEnd, RefusesTold, Shows, WordsMayEnd, ended, of_source, refused, unread, wanting}
 
@@ -170,38 +170,38 @@ if_done : (b : Bool) → kind_of (if b then Done else StepsSpent) ≡ done
 if_done true = refl
 if_done false = refl
 
-module _ (once : SourcesAreRefusedOnce) (apart : AcceptedIsNotRefused) (program : ProgramIsNoMisfit) where
-  check_is_exact : IsExact Rejects IsSmall Checks
+module _ (law : AreRefusedOnce) where
+  check_is_exact : IsExact Unchecked IsChecked Checks
   check_is_exact = record {
-    once = once;
-    apart = λ text r a. apart text a.0 r a.1;
+    once = law.checks;
+    apart = λ text r a. law.checked text r a;
     fits = λ text e h. h.0;
     is_done = λ text e h. ap (λ (z : Ending). kind_of z.report.status) h.1;
   }
 
   print_is_exact : IsExact Misfits IsProgram Shows
   print_is_exact = record {
-    once = λ text q r a b. once text q r (inl a) (inl b);
-    apart = λ text r a. program text a.0 a.1 r a.2;
+    once = λ text q r a b. law.runs text q r (inl (inl a)) (inl (inl b));
+    apart = λ text r a. law.program text a.0 a.1 r a.2;
     fits = λ text e h. (h.1.0, h.1.1, h.1.2);
     is_done = λ text e h. ap (λ (z : Ending). kind_of z.report.status) h.2;
   }
 
   run_is_exact : (c : RunWords) → IsExact Rejects IsSmall (Runs c)
   run_is_exact c = record {
-    once = once;
-    apart = λ text r a. apart text a.0 r a.1;
+    once = law.runs;
+    apart = λ text r a. law.accepted text a.0 r a.1;
     fits = λ text e h. (h.3.program, h.3.accepts);
     is_done = λ text e h. ap (λ (z : Ending). kind_of z.report.status) h.4 ∙ if_done (nat_lt 0 (filled_in (slice_get h.2 0)));
   }
 
   module _ (shelf : SeenShelf) (out out_after err err_after : SeenSink) (x : Report) where
     pub refuses : (c : Command) → Does c shelf out out_after err err_after x → RefusesTold c shelf x.status
-    refuses (Check file) (e, may, shows) = refuses_told file Rejects IsSmall Checks shelf.told check_is_exact x.status e (λ plain. (shows.delivers plain).status) may
+    refuses (Check file) (e, may, shows) = refuses_told file Unchecked IsChecked Checks shelf.told check_is_exact x.status e (λ plain. (shows.delivers plain).status) may
     refuses (Print file) (e, may, shows) = refuses_told file Misfits IsProgram Shows shelf.told print_is_exact x.status e (λ plain. (shows.delivers plain).status) may
     refuses (Run c) (e, may, shows) = refuses_told c.file Rejects IsSmall (Runs c) shelf.told (run_is_exact c) x.status e (λ plain. (shows.delivers plain).status) may
 
     pub accepted : (c : Command) → Does c shelf out out_after err err_after x → AcceptsTold c shelf x.status
-    accepted (Check file) (e, may, shows) = accepts_told file Rejects IsSmall Checks shelf.told check_is_exact x.status e (λ plain. (shows.delivers plain).status) may
+    accepted (Check file) (e, may, shows) = accepts_told file Unchecked IsChecked Checks shelf.told check_is_exact x.status e (λ plain. (shows.delivers plain).status) may
     accepted (Print file) (e, may, shows) = accepts_told file Misfits IsProgram Shows shelf.told print_is_exact x.status e (λ plain. (shows.delivers plain).status) may
     accepted (Run c) (e, may, shows) = accepts_told c.file Rejects IsSmall (Runs c) shelf.told (run_is_exact c) x.status e (λ plain. (shows.delivers plain).status) may

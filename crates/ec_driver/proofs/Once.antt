@@ -5,14 +5,15 @@ use Rattle.std.proofs.lemmas.Option.{same_Some}
 use Rattle.std.proofs.lemmas.List.{take-append-drop, take-take}
 use Rattle.std.proofs.lemmas.Bool.{cases_order}
 use Rattle.ec_base.specs.declared.token.Token.{Token}
-use Rattle.ec_lex.specs.Tokens.{TextsHaveOneCut}
-use Rattle.ec_reader.specs.Laws.{OneRefusal, RefusedIsNoProgram}
 use Rattle.ec_reader.specs.Refusals.{Refuses}
 use Rattle.ec_small.specs.Grammar as small
 use Rattle.ec_driver.specs.declared.status.Refusal.{Refusal}
-use Rattle.ec_driver.specs.Lines.{not_program, not_token, not_yet}
-use Rattle.ec_driver.specs.Source.{Breaks, Misfits, Rejects, Stops, StopsAt}
-use Rattle.ec_driver.proofs.Unique.{no_misfit, same_tokens, unbroken}
+use Rattle.ec_types.specs.Programs.{IsFirst}
+use Rattle.ec_driver.specs.Built.{first_parallel}
+use Rattle.ec_driver.specs.Lines.{not_program, not_token, not_typed, not_yet}
+use Rattle.ec_driver.specs.Once.{AreRefusedOnce}
+use Rattle.ec_driver.specs.Source.{Breaks, Misfits, Mistypes, Rejects, StopsAt, Unbuilt, Unchecked, Untyped}
+use Rattle.ec_driver.proofs.Unique.{Layers, checked_is_right, is_typed, no_misfit, not_both, same_tokens, same_tree, unbroken}
 
 -- ---- of the tokens of a program that isn't small
 
@@ -44,32 +45,61 @@ same_stop tokens r s a b =
 
 -- ---- of a text
 
-module _ (one : TextsHaveOneCut) (excluded : RefusedIsNoProgram) (once : OneRefusal) (bytes : List ℕ) where
+module _ (laws : Layers) (bytes : List ℕ) where
   same_break : (r s : Refusal) → Breaks bytes r → Breaks bytes s → r ≡ s
   same_break r s a b =
-      let same : Some a.first ≡ Some b.first = (one bytes b.before (Some b.first) b.cuts a.before (Some a.first) a.cuts).1 in
+      let same : Some a.first ≡ Some b.first = (laws.one bytes b.before (Some b.first) b.cuts a.before (Some a.first) a.cuts).1 in
       a.is ∙ ap not_token (same_Some a.first b.first same) ∙ sym b.is
 
-  -- a program that isn't small has tokens, and is no misfit
-  no_stop : (r s : Refusal) → Stops bytes r → Misfits bytes s → ⊥
-  no_stop r s a m = no_misfit one excluded bytes a.tokens a.tree s a.source m
-
-  same_misfit : (r s : Refusal) → Misfits bytes r → Misfits bytes s → r ≡ s
+  pub same_misfit : (r s : Refusal) → Misfits bytes r → Misfits bytes s → r ≡ s
   same_misfit r s (inl a) (inl b) = a.1 ∙ sym b.1
   same_misfit r s (inl a) (inr (inl b)) = absurd (omega (arith, a.0, b.short))
   same_misfit r s (inl a) (inr (inr b)) = absurd (omega (arith, a.0, b.lexes.short))
   same_misfit r s (inr (inl a)) (inl b) = absurd (omega (arith, a.short, b.0))
   same_misfit r s (inr (inl a)) (inr (inl b)) = same_break r s a b
-  same_misfit r s (inr (inl a)) (inr (inr b)) = absurd (unbroken one bytes b.tokens r b.lexes a)
+  same_misfit r s (inr (inl a)) (inr (inr b)) = absurd (unbroken laws.one bytes b.tokens r b.lexes a)
   same_misfit r s (inr (inr a)) (inl b) = absurd (omega (arith, a.lexes.short, b.0))
-  same_misfit r s (inr (inr a)) (inr (inl b)) = absurd (unbroken one bytes a.tokens s a.lexes b)
+  same_misfit r s (inr (inr a)) (inr (inl b)) = absurd (unbroken laws.one bytes a.tokens s a.lexes b)
   same_misfit r s (inr (inr a)) (inr (inr b)) =
-      let refuses = subst (λ l. Refuses l a.first) (same_tokens one bytes a.tokens b.tokens a.lexes b.lexes) a.refuses in
-      a.is ∙ ap not_program (once b.tokens a.first b.first refuses b.refuses) ∙ sym b.is
+      let refuses = subst (λ l. Refuses l a.first) (same_tokens laws.one bytes a.tokens b.tokens a.lexes b.lexes) a.refuses in
+      a.is ∙ ap not_program (laws.once b.tokens a.first b.first refuses b.refuses) ∙ sym b.is
+
+  same_mistype : (r s : Refusal) → Mistypes bytes r → Mistypes bytes s → r ≡ s
+  same_mistype r s a b =
+      let tree = same_tree laws bytes a.tokens b.tokens a.tree b.tree a.source b.source in
+      let first = laws.typed_once b.tree a.first b.first (subst (λ p. IsFirst p a.first) tree a.refuses) b.refuses in
+      a.is ∙ ap not_typed first ∙ sym b.is
+
+  same_untyped : (r s : Refusal) → Untyped bytes r → Untyped bytes s → r ≡ s
+  same_untyped r s (inl a) (inl b) = same_misfit r s a b
+  same_untyped r s (inl a) (inr b) = absurd (no_misfit laws.one laws.excluded bytes b.tokens b.tree r b.source a)
+  same_untyped r s (inr a) (inl b) = absurd (no_misfit laws.one laws.excluded bytes a.tokens a.tree s a.source b)
+  same_untyped r s (inr a) (inr b) = same_mistype r s a b
 
   pub same_refusal : (r s : Refusal) → Rejects bytes r → Rejects bytes s → r ≡ s
-  same_refusal r s (inl a) (inl b) = same_misfit r s a b
-  same_refusal r s (inl a) (inr b) = absurd (no_stop s r b a)
-  same_refusal r s (inr a) (inl b) = absurd (no_stop r s a b)
+  same_refusal r s (inl a) (inl b) = same_untyped r s a b
+  same_refusal r s (inl a) (inr b) = absurd (is_typed laws bytes b.tokens b.tree r b.source a)
+  same_refusal r s (inr a) (inl b) = absurd (is_typed laws bytes a.tokens a.tree s a.source b)
   same_refusal r s (inr a) (inr b) =
-      same_stop b.tokens r s (subst (λ l. StopsAt l r) (same_tokens one bytes a.tokens b.tokens a.source.lexes b.source.lexes) a.stops) b.stops
+      let tokens = same_tokens laws.one bytes a.tokens b.tokens a.source.source.lexes b.source.source.lexes in
+      same_stop b.tokens r s (subst (λ l. StopsAt l r) tokens a.stops) b.stops
+
+  same_unbuilt : (r s : Refusal) → Unbuilt bytes r → Unbuilt bytes s → r ≡ s
+  same_unbuilt r s a b =
+      let tree = same_tree laws bytes a.tokens b.tokens a.tree b.tree a.source.source b.source.source in
+      a.is ∙ ap not_yet (same_Some a.at b.at (sym a.there ∙ ap first_parallel tree ∙ b.there)) ∙ sym b.is
+
+  pub checks_refuse_once : (r s : Refusal) → Unchecked bytes r → Unchecked bytes s → r ≡ s
+  checks_refuse_once r s (inl a) (inl b) = same_untyped r s a b
+  checks_refuse_once r s (inl a) (inr b) = absurd (is_typed laws bytes b.tokens b.tree r b.source a)
+  checks_refuse_once r s (inr a) (inl b) = absurd (is_typed laws bytes a.tokens a.tree s a.source b)
+  checks_refuse_once r s (inr a) (inr b) = same_unbuilt r s a b
+
+pub refused_once : Layers → AreRefusedOnce
+refused_once laws = record {
+  runs = same_refusal laws;
+  accepted = not_both laws;
+  checks = checks_refuse_once laws;
+  checked = checked_is_right laws;
+  program = no_misfit laws.one laws.excluded;
+}

@@ -45,10 +45,13 @@ shown text = ending (bare Done) text []
 abbrev pub last_status : List Node → Status
 last_status w = if nat_lt 0 (filled_in (slice_get w 0)) then Done else StepsSpent
 
--- of a run of this code with this last world: both are kept, and its output and the line of its status are written
+-- of a run of this code with this last world: both are kept
+abbrev pub reported : Code → Run → List Node → Report
+reported code r w = record { status = last_status w; run = Some r; code = Some code }
+
+-- and its output and the line of its status are written
 abbrev pub ran : Code → Run → List Node → Ending
-ran code r w =
-    ending (record { status = last_status w; run = Some r; code = Some code }) (output w) (line_of (last_status w) (result w))
+ran code r w = ending (reported code r w) (output w) (line_of (last_status w) (result w))
 
 -- ---- what is shown of an ending
 

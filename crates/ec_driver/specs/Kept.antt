@@ -69,8 +69,8 @@ pub record IsCodeOf (p : Program) (code : Code) (w : List Node) : Type 0 where
   pub every_run_agrees : EveryRunAgrees p code
   pub every_run_goes_on : EveryRunGoesOn code
 
--- the run is of this code of the text's program, from the start that the words ask for to this last world, which has ended
--- or a unit's steps are spent
+-- the run is of this code of the text's program, from the start that the words ask for to this last world, which has
+-- ended or a unit's steps are spent
 pub record RunsTo (c : RunWords) (text : List ℕ) (code : Code) (r : Run) (w : List Node) : Type 0 where
   pub program : Program
   pub accepts : Accepts text program

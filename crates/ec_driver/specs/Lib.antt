@@ -1,8 +1,8 @@
 -- to be believed, in reading order: what the clauses of `earthc` rest on
 pub mod Command
 pub mod Status
-pub mod Reason
 pub mod Lines
+pub mod Built
 pub mod Source
 pub mod Once
 pub mod Ending

@@ -12,7 +12,7 @@ use Rattle.ec_driver.specs.declared.status.Status.TheVariants.{Done, WordsRefuse
 use Rattle.ec_driver.specs.Command.{told_command}
 use Rattle.ec_driver.specs.Ending.{Ending, IsShown, shown, stop}
 use Rattle.ec_driver.specs.Kept.{Runs}
-use Rattle.ec_driver.specs.Source.{IsProgram, IsSmall, Misfits, Prints, Rejects}
+use Rattle.ec_driver.specs.Source.{IsChecked, IsProgram, IsSmall, Misfits, Prints, Rejects, Unchecked}
 use Rattle.ec_driver.specs.Status.{IsOfOrFails, IsOrFails, done}
 
 -- ---- the table
@@ -52,15 +52,15 @@ of_source file rejects accepts ends = record {
   changes = λ name. ⊥;
 }
 
--- a check writes that a small program is accepted, a print the canonical text of any program
+-- a check writes that a program is accepted, a print the canonical text of any program
 abbrev pub Checks : List ℕ → Ending → Type 0
-Checks text e = IsSmall text × (e ≡ shown (codes "accepted\n"))
+Checks text e = IsChecked text × (e ≡ shown (codes "accepted\n"))
 
 abbrev pub Shows : List ℕ → Ending → Type 0
 Shows text e = (canon : List ℕ) × Prints text canon × (e ≡ shown canon)
 
 abbrev pub task : Command → Task
-task (Check file) = of_source file Rejects IsSmall Checks
+task (Check file) = of_source file Unchecked IsChecked Checks
 task (Print file) = of_source file Misfits IsProgram Shows
 task (Run r) = of_source r.file Rejects IsSmall (Runs r)
 

@@ -2,11 +2,11 @@
 //! `specs/Task.antt` has the table of what each command does.
 #![tactic(auto)]
 
+mod built;
 mod command;
 mod drive;
 mod laws;
 mod line;
-mod reason;
 mod run;
 mod say;
 mod source;

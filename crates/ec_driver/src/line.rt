@@ -1,12 +1,11 @@
 //! The lines for the error stream.
 ghost use Rattle.std.specs.Prelude.{◌≡◌, ◌++◌, IfOk, OnOk, OnErr, List, ℕ};
 ghost use Rattle.std.specs.Fmt.{decimal, signed_decimal};
+ghost use Rattle.ec_base.specs.Reason.{name_numbered};
 ghost use Rattle.ec_driver.specs.Lines.{line_of, place, refusal_line, result_line};
-ghost use Rattle.ec_driver.specs.Reason.{name_of, reason_of};
 
-use crate::reason::Reason;
 use crate::status::{Refusal, Status};
-use ec_base::{Span, Text};
+use ec_base::{Reason, Span, Text};
 use itoa::Buffer;
 use std::alloc::{AllocError, Global};
 
@@ -20,7 +19,7 @@ fn append_place(line: &mut Text, at: Span) -> Result<(), AllocError>
 
 /// The name of the refusal with this number, or nothing where there is none.
 fn name(what: u8) -> &'static [u8]
-    ensures { result.now ≡ name_of (reason_of what) }
+    ensures { result.now ≡ name_numbered what }
 {
     match Reason::numbered(what) {
         Some(reason) => reason.name(),

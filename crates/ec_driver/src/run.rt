@@ -52,7 +52,8 @@ fn finish<O: Sink, E: Sink>(
     progress: Progress,
     code: Code,
 ) -> Report
-    ensures { IsShown (ran_to words.now code progress) result (O.has out.old) (O.has out.new) (E.has err.old) (E.has err.new) }
+    ensures { IsShown (ran_to words.now code progress) result
+        (O.has out.old) (O.has out.new) (E.has err.old) (E.has err.new) }
 {
     let Progress { world, list, .. } = progress;
     let (status, value) = match world.result() {

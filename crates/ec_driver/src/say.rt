@@ -48,7 +48,8 @@ pub(crate) fn deliver<O: Sink, E: Sink>(
 ) -> Report
     requires written { report.status ≡ Status.WriteFault → ⊥ }
     requires memory { report.status ≡ Status.NoMemory → output.now ≡ [] }
-    ensures { IsShown (ending report output.now line.now) result (O.has out.old) (O.has out.new) (E.has err.old) (E.has err.new) }
+    ensures { IsShown (ending report output.now line.now) result
+        (O.has out.old) (O.has out.new) (E.has err.old) (E.has err.new) }
 {
     match put(out, output) {
         Ok(()) => {}

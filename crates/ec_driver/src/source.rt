@@ -5,10 +5,12 @@ ghost use Rattle.ec_edge.specs.Shelf.{OnlyReads};
 ghost use Rattle.ec_small.specs.Grammar.{Reads};
 ghost use Rattle.ec_small.specs.Sound.{Sound};
 ghost use Rattle.ec_driver.specs.Load.{Fails, OfText, Unread, status_of};
-ghost use Rattle.ec_driver.specs.Source.{Accepts, IsSource, Lexes, Misfits, Prints, Rejects, StopsAt};
+ghost use Rattle.ec_driver.specs.Source.{Accepts, IsChecked, IsSource, IsTypedSource, Lexes, Misfits, Prints};
+ghost use Rattle.ec_driver.specs.Source.{Rejects, StopsAt, Unchecked, Untyped};
 ghost use Rattle.ec_driver.specs.Status.{ReadsAs};
 ghost use Rattle.ec_driver.specs.Task.{IsText};
 
+use crate::built::first_parallel;
 use crate::status::{Refusal, Status};
 use ec_base::{Fail, MAX_SOURCE, Text, Token, Tokens};
 use ec_edge::{ReadEnd, Shelf};
@@ -16,6 +18,7 @@ use ec_lex::lex;
 use ec_print::print;
 use ec_small::Program;
 use ec_syntax::Program as Tree;
+use ec_types::Typed;
 use std::alloc::Global;
 
 /// The tokens of a text and the tree of its program in the whole language.
@@ -51,6 +54,39 @@ fn parse(alloc: Global, text: &Text) -> Result<Parsed, Fail<Refusal>>
     }
 }
 
+/// The tokens of a text and its program, which is typed.
+#[derive(Drop)]
+pub(crate) struct TypedSource {
+    pub tokens: Tokens,
+    pub typed: Typed,
+}
+
+/// The typed program of a text, or why and where it is none.
+fn typed(alloc: Global, text: &Text) -> Result<TypedSource, Fail<Refusal>>
+    ensures { MatchResult result (λ s. IsTypedSource text.now s.tokens s.typed) (Fails (Untyped text.now)) }
+{
+    let parsed = parse(alloc, text)?;
+    match ec_types::check(alloc, parsed.tree) {
+        Ok(typed) => Ok(TypedSource {
+            tokens: parsed.tokens,
+            typed,
+        }),
+        Err(Fail::Memory) => Err(Fail::Memory),
+        Err(Fail::Refused(first)) => Err(Fail::Refused(Refusal::not_typed(first))),
+    }
+}
+
+/// Whether a text is a program all of whose forms are built, or why and where it isn't.
+fn checked(alloc: Global, text: &Text) -> Result<(), Fail<Refusal>>
+    ensures { MatchResult result (λ u. IsChecked text.now) (Fails (Unchecked text.now)) }
+{
+    let source = typed(alloc, text)?;
+    match first_parallel(source.typed.program()) {
+        None => Ok(()),
+        Some(at) => Err(Fail::Refused(Refusal::not_yet(at))),
+    }
+}
+
 /// The tree of the small program that the tokens of a text are, or where they are none.
 fn narrow(alloc: Global, tokens: &[Token]) -> Result<Program, Fail<Refusal>>
     requires { AreTokens tokens.now }
@@ -67,8 +103,8 @@ fn narrow(alloc: Global, tokens: &[Token]) -> Result<Program, Fail<Refusal>>
 fn tree(alloc: Global, text: &Text) -> Result<Program, Fail<Refusal>>
     ensures { MatchResult result (λ p. Accepts text.now p × Sound p) (Fails (Rejects text.now)) }
 {
-    let parsed = parse(alloc, text)?;
-    narrow(alloc, parsed.tokens.as_slice())
+    let source = typed(alloc, text)?;
+    narrow(alloc, source.tokens.as_slice())
 }
 
 /// The canonical text of the program that a text is, or why and where it is none.
@@ -116,6 +152,25 @@ pub(crate) fn load<S: Shelf>(alloc: Global, shelf: &mut S, file: &Text) -> Resul
     let text = fetch(shelf, file)?;
     match tree(alloc, &text) {
         Ok(program) => Ok(program),
+        Err(fail) => Err(status_of(fail)),
+    }
+}
+
+/// Whether a file is checked, or the status that tells why it isn't. The shelf is only read.
+pub(crate) fn load_checked<S: Shelf>(
+    alloc: Global,
+    shelf: &mut S,
+    file: &Text,
+) -> Result<(), Status>
+    ensures ok { IfOk result (λ u. OfText ((S.has shelf.old).told file.now) IsChecked) }
+    ensures err { IfErr result (Unread Unchecked ((S.has shelf.old).told file.now)) }
+    ensures only { OnlyReads (S.has shelf.old) (S.has shelf.new) }
+    ensures quiet { OnOk result ((S.has shelf.new).read_faults ≡ (S.has shelf.old).read_faults) }
+    ensures reads { IfErr result (λ s. ReadsAs s (S.has shelf.old).read_faults (S.has shelf.new).read_faults) }
+{
+    let text = fetch(shelf, file)?;
+    match checked(alloc, &text) {
+        Ok(()) => Ok(()),
         Err(fail) => Err(status_of(fail)),
     }
 }

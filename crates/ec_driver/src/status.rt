@@ -1,14 +1,14 @@
 //! How a command ends.
 ghost use Rattle.std.specs.Prelude.{◌≡◌};
-ghost use Rattle.ec_driver.specs.Lines.{not_program, not_token, not_yet, refusal, too_long};
+ghost use Rattle.ec_driver.specs.Lines.{not_program, not_token, not_typed, not_yet, refusal, too_long};
 ghost use Rattle.ec_driver.specs.Ending.{bare};
 ghost use Rattle.ec_driver.specs.Status.{number_of};
 
-use crate::reason::Reason;
-use ec_base::{MAX_SOURCE, Span};
+use ec_base::{MAX_SOURCE, Reason, Span};
 use ec_core::{Code, Run};
 use ec_lex::LexRefusal;
 use ec_reader::ReadRefusal;
+use ec_types::TypeRefusal;
 
 /// Why and where a source is refused; `other` is a second place that the refusal speaks of.
 #[derive(Clone, Copy, Debug, PartialEq, Eq)]
@@ -49,6 +49,17 @@ impl Refusal {
             what: first.what,
             at: first.at,
             other: None,
+        }
+    }
+
+    /// A part of the program breaks a rule of typing.
+    pub(crate) fn not_typed(first: TypeRefusal) -> Refusal
+        ensures { result ≡ not_typed first }
+    {
+        Refusal {
+            what: first.what,
+            at: first.at,
+            other: first.other,
         }
     }
 

@@ -11,7 +11,7 @@ use crate::command::{Command, RunWords, read_words};
 use crate::laws::sources_are_refused_once;
 use crate::run::run_program;
 use crate::say::{deliver, stop};
-use crate::source::{load, load_printed};
+use crate::source::{load, load_checked, load_printed};
 use crate::status::{Report, Status};
 use ec_base::{Fail, Text};
 use ec_edge::{Gate, Shelf, Sink};
@@ -25,12 +25,13 @@ fn check<S: Shelf, O: Sink, E: Sink>(
     out: &mut O,
     err: &mut E,
 ) -> Report
-    ensures end { Does (Check file.now) (S.has shelf.old) (O.has out.old) (O.has out.new) (E.has err.old) (E.has err.new) result }
+    ensures end { Does (Check file.now) (S.has shelf.old)
+        (O.has out.old) (O.has out.new) (E.has err.old) (E.has err.new) result }
     ensures reads { ReadsAs result.status (S.has shelf.old).read_faults (S.has shelf.new).read_faults }
     ensures only { OnlyReads (S.has shelf.old) (S.has shelf.new) }
 {
-    match load(alloc, shelf, file) {
-        Ok(_program) => deliver(out, err, b"accepted\n", b"", Report::bare(Status::Done)),
+    match load_checked(alloc, shelf, file) {
+        Ok(()) => deliver(out, err, b"accepted\n", b"", Report::bare(Status::Done)),
         Err(status) => stop(alloc, out, err, status),
     }
 }
@@ -43,7 +44,8 @@ fn print<S: Shelf, O: Sink, E: Sink>(
     out: &mut O,
     err: &mut E,
 ) -> Report
-    ensures end { Does (Print file.now) (S.has shelf.old) (O.has out.old) (O.has out.new) (E.has err.old) (E.has err.new) result }
+    ensures end { Does (Print file.now) (S.has shelf.old)
+        (O.has out.old) (O.has out.new) (E.has err.old) (E.has err.new) result }
     ensures reads { ReadsAs result.status (S.has shelf.old).read_faults (S.has shelf.new).read_faults }
     ensures only { OnlyReads (S.has shelf.old) (S.has shelf.new) }
 {
@@ -62,7 +64,8 @@ fn run<S: Shelf, O: Sink, E: Sink>(
     err: &mut E,
 ) -> Report
     requires { words.now ≡ run_of words.now.file }
-    ensures end { Does (Run words.now) (S.has shelf.old) (O.has out.old) (O.has out.new) (E.has err.old) (E.has err.new) result }
+    ensures end { Does (Run words.now) (S.has shelf.old)
+        (O.has out.old) (O.has out.new) (E.has err.old) (E.has err.new) result }
     ensures reads { ReadsAs result.status (S.has shelf.old).read_faults (S.has shelf.new).read_faults }
     ensures only { OnlyReads (S.has shelf.old) (S.has shelf.new) }
 {
@@ -81,7 +84,8 @@ fn perform<S: Shelf, O: Sink, E: Sink>(
     err: &mut E,
 ) -> Report
     requires { IsGiven command.now }
-    ensures end { Does command.now (S.has shelf.old) (O.has out.old) (O.has out.new) (E.has err.old) (E.has err.new) result }
+    ensures end { Does command.now (S.has shelf.old)
+        (O.has out.old) (O.has out.new) (E.has err.old) (E.has err.new) result }
     ensures refused { RefusesTold command.now (S.has shelf.old) result.status }
     ensures accepted { AcceptsTold command.now (S.has shelf.old) result.status }
     ensures reads { ReadsAs result.status (S.has shelf.old).read_faults (S.has shelf.new).read_faults }
@@ -105,7 +109,8 @@ pub fn plain<S: Shelf, O: Sink, E: Sink>(
 ) -> Report
     requires own { is_threaded command.now ≡ false }
     requires given { IsGiven command.now }
-    ensures end { Does command.now (S.has shelf.old) (O.has out.old) (O.has out.new) (E.has err.old) (E.has err.new) result }
+    ensures end { Does command.now (S.has shelf.old)
+        (O.has out.old) (O.has out.new) (E.has err.old) (E.has err.new) result }
     ensures refused { RefusesTold command.now (S.has shelf.old) result.status }
     ensures accepted { AcceptsTold command.now (S.has shelf.old) result.status }
     ensures reads { ReadsAs result.status (S.has shelf.old).read_faults (S.has shelf.new).read_faults }
@@ -114,8 +119,8 @@ pub fn plain<S: Shelf, O: Sink, E: Sink>(
     perform(alloc, command, shelf, out, err)
 }
 
-/// Does a command that runs a program: its output goes to `out`, and one line to `err`. Neither the gate nor the chooser
-/// is asked while there is one node.
+/// Does a command that runs a program: its output goes to `out`, and one line to `err`. Neither the gate nor the
+/// chooser is asked while there is one node.
 pub fn threaded<S: Shelf, O: Sink, E: Sink, G: Gate + Sync, F: Fn(u64) -> u64 + Sync>(
     alloc: Global,
     command: &Command,
@@ -129,7 +134,8 @@ pub fn threaded<S: Shelf, O: Sink, E: Sink, G: Gate + Sync, F: Fn(u64) -> u64 + 
     requires below { (c r : ℕ) → 1 ≤ c → c < 2 ^ 64 → F.post _choose.now c r → r < c }
     requires own { is_threaded command.now ≡ true }
     requires given { IsGiven command.now }
-    ensures end { Does command.now (S.has shelf.old) (O.has out.old) (O.has out.new) (E.has err.old) (E.has err.new) result }
+    ensures end { Does command.now (S.has shelf.old)
+        (O.has out.old) (O.has out.new) (E.has err.old) (E.has err.new) result }
     ensures refused { RefusesTold command.now (S.has shelf.old) result.status }
     ensures accepted { AcceptsTold command.now (S.has shelf.old) result.status }
     ensures reads { ReadsAs result.status (S.has shelf.old).read_faults (S.has shelf.new).read_faults }
@@ -153,7 +159,8 @@ pub fn earthc<S: Shelf, O: Sink, E: Sink, G: Gate + Sync, F: Fn(u64) -> u64 + Sy
     requires below { (c r : ℕ) → 1 ≤ c → c < 2 ^ 64 → F.post choose.now c r → r < c }
 
     // The report and the sinks show an ending that the words may have.
-    ensures end { Ends words.now (S.has shelf.old) (O.has out.old) (O.has out.new) (E.has err.old) (E.has err.new) result }
+    ensures end { Ends words.now (S.has shelf.old)
+        (O.has out.old) (O.has out.new) (E.has err.old) (E.has err.new) result }
 
     // A source that is told is refused exactly where the command refuses it, unless reading it, or the call, fails.
     ensures refused { (c : Command) → IsCommand words.now c → RefusesTold c (S.has shelf.old) result.status }

@@ -10,13 +10,13 @@ returns-in-Check-clause-end g c = rw c.in-Check.is c.check.ensures.end
 pub returns-in-Check-clause-refused : goal.returns-in-Check-clause-refused
 returns-in-Check-clause-refused g c =
     let law = c.sources_are_refused_once.ensures in
-    let all = refuses law.once law.accepted law.program (g.S.Shelf.has c.args.shelf.now) (g.O.Sink.has c.args.out.now) (g.O.Sink.has c.check.new.out) (g.E.Sink.has c.args.err.now) (g.E.Sink.has c.check.new.err) c.check.result in
+    let all = refuses law (g.S.Shelf.has c.args.shelf.now) (g.O.Sink.has c.args.out.now) (g.O.Sink.has c.check.new.out) (g.E.Sink.has c.args.err.now) (g.E.Sink.has c.check.new.err) c.check.result in
     rw c.in-Check.is (all (Check c.in-Check.file) c.check.ensures.end)
 
 pub returns-in-Check-clause-accepted : goal.returns-in-Check-clause-accepted
 returns-in-Check-clause-accepted g c =
     let law = c.sources_are_refused_once.ensures in
-    let all = accepted law.once law.accepted law.program (g.S.Shelf.has c.args.shelf.now) (g.O.Sink.has c.args.out.now) (g.O.Sink.has c.check.new.out) (g.E.Sink.has c.args.err.now) (g.E.Sink.has c.check.new.err) c.check.result in
+    let all = accepted law (g.S.Shelf.has c.args.shelf.now) (g.O.Sink.has c.args.out.now) (g.O.Sink.has c.check.new.out) (g.E.Sink.has c.args.err.now) (g.E.Sink.has c.check.new.err) c.check.result in
     rw c.in-Check.is (all (Check c.in-Check.file) c.check.ensures.end)
 
 -- ---- a print
@@ -27,13 +27,13 @@ returns-in-Print-clause-end g c = rw c.in-Print.is c.print.ensures.end
 pub returns-in-Print-clause-refused : goal.returns-in-Print-clause-refused
 returns-in-Print-clause-refused g c =
     let law = c.sources_are_refused_once.ensures in
-    let all = refuses law.once law.accepted law.program (g.S.Shelf.has c.args.shelf.now) (g.O.Sink.has c.args.out.now) (g.O.Sink.has c.print.new.out) (g.E.Sink.has c.args.err.now) (g.E.Sink.has c.print.new.err) c.print.result in
+    let all = refuses law (g.S.Shelf.has c.args.shelf.now) (g.O.Sink.has c.args.out.now) (g.O.Sink.has c.print.new.out) (g.E.Sink.has c.args.err.now) (g.E.Sink.has c.print.new.err) c.print.result in
     rw c.in-Print.is (all (Print c.in-Print.file) c.print.ensures.end)
 
 pub returns-in-Print-clause-accepted : goal.returns-in-Print-clause-accepted
 returns-in-Print-clause-accepted g c =
     let law = c.sources_are_refused_once.ensures in
-    let all = accepted law.once law.accepted law.program (g.S.Shelf.has c.args.shelf.now) (g.O.Sink.has c.args.out.now) (g.O.Sink.has c.print.new.out) (g.E.Sink.has c.args.err.now) (g.E.Sink.has c.print.new.err) c.print.result in
+    let all = accepted law (g.S.Shelf.has c.args.shelf.now) (g.O.Sink.has c.args.out.now) (g.O.Sink.has c.print.new.out) (g.E.Sink.has c.args.err.now) (g.E.Sink.has c.print.new.err) c.print.result in
     rw c.in-Print.is (all (Print c.in-Print.file) c.print.ensures.end)
 
 -- ---- a run
@@ -44,11 +44,11 @@ returns-in-Run-clause-end g c = rw c.in-Run.is c.run.ensures.end
 pub returns-in-Run-clause-refused : goal.returns-in-Run-clause-refused
 returns-in-Run-clause-refused g c =
     let law = c.sources_are_refused_once.ensures in
-    let all = refuses law.once law.accepted law.program (g.S.Shelf.has c.args.shelf.now) (g.O.Sink.has c.args.out.now) (g.O.Sink.has c.run.new.out) (g.E.Sink.has c.args.err.now) (g.E.Sink.has c.run.new.err) c.run.result in
+    let all = refuses law (g.S.Shelf.has c.args.shelf.now) (g.O.Sink.has c.args.out.now) (g.O.Sink.has c.run.new.out) (g.E.Sink.has c.args.err.now) (g.E.Sink.has c.run.new.err) c.run.result in
     rw c.in-Run.is (all (Run c.in-Run.words) c.run.ensures.end)
 
 pub returns-in-Run-clause-accepted : goal.returns-in-Run-clause-accepted
 returns-in-Run-clause-accepted g c =
     let law = c.sources_are_refused_once.ensures in
-    let all = accepted law.once law.accepted law.program (g.S.Shelf.has c.args.shelf.now) (g.O.Sink.has c.args.out.now) (g.O.Sink.has c.run.new.out) (g.E.Sink.has c.args.err.now) (g.E.Sink.has c.run.new.err) c.run.result in
+    let all = accepted law (g.S.Shelf.has c.args.shelf.now) (g.O.Sink.has c.args.out.now) (g.O.Sink.has c.run.new.out) (g.E.Sink.has c.args.err.now) (g.E.Sink.has c.run.new.err) c.run.result in
     rw c.in-Run.is (all (Run c.in-Run.words) c.run.ensures.end)
