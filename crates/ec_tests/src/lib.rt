@@ -17,4 +17,8 @@ mod print;
 #[cfg(test)]
 mod small;
 #[cfg(test)]
+mod source;
+#[cfg(test)]
 mod split;
+#[cfg(test)]
+mod types;

@@ -3,7 +3,6 @@ use ec_base::{Fail as Failure, List, NoMemory, Text};
 use ec_core::{Act, Choice, Code, Fiber, Function, Instr, NotEnabled, World, enabled_exactly};
 use std::alloc::Global;
 use std::process::Abort;
-use std::test::Fail;
 
 fn text(alloc: Global, bytes: &[u8]) -> Result<Text, NoMemory> {
     Ok(Text::from_slice(alloc, bytes)?)
@@ -89,101 +88,130 @@ fn choice(act: Act) -> Choice {
     }
 }
 
-/// Steps node 0 by all these acts, each of which has a step, and ends the world by the last alone.
-fn steps(rt: &impl Abort, alloc: Global, code: &Code, world: &mut World, acts: &[Act]) {
+/// A step of node 0, which has a step before the world has ended.
+fn step(rt: &impl Abort, alloc: Global, code: &Code, world: &mut World, act: Act) {
+    assert!(rt; world.result().is_none());
+    assert!(rt; world.enabled(choice(act)));
+    assert!(rt; world.step(alloc, code, choice(act)).is_ok());
+}
+
+/// The world that all these acts of its one node lead to.
+fn after(rt: &impl Abort, alloc: Global, code: &Code, acts: &[Act]) -> Result<World, NoMemory> {
+    let mut world = World::start(alloc, code, 1, &[])?;
     for act in acts {
-        assert!(rt; world.result().is_none());
-        assert!(rt; world.enabled(choice(*act)));
-        assert!(rt; world.step(alloc, code, choice(*act)).is_ok());
+        step(rt, alloc, code, &mut world, *act);
     }
+    Ok(world)
+}
+
+/// What the last of these acts, and none before it, ends with.
+fn ends(
+    rt: &impl Abort,
+    alloc: Global,
+    code: &Code,
+    acts: &[Act],
+    value: i64,
+    output: &[u8],
+) -> Result<u64, NoMemory> {
+    let world = after(rt, alloc, code, acts)?;
     assert!(rt; world.ended());
+    assert_eq!(rt; world.result(), Some(value));
+    assert_eq!(rt; world.output().as_slice(), output);
+    Ok(world.handled())
 }
 
+const RETURNING: &[Act] = &[
+    Act::EuReady,
+    Act::EuEvent,
+    Act::SuEvent,
+    Act::SuReady,
+    Act::EuReady,
+    Act::EuEvent,
+    Act::EuEvent,
+    Act::SuEvent,
+    Act::SuEvent,
+];
+
 #[test]
-fn nothing_but_a_result(rt: HostRuntime) -> Result<(), Fail> {
+fn nothing_but_a_result(rt: HostRuntime) -> Result<(), NoMemory> {
     let code = nil(rt.alloc())?;
-    let mut world = World::start(rt.alloc(), &code, 1, &[])?;
-    let acts = [
-        Act::EuReady,
-        Act::EuEvent,
-        Act::SuEvent,
-        Act::SuReady,
-        Act::EuReady,
-        Act::EuEvent,
-        Act::EuEvent,
-        Act::SuEvent,
-        Act::SuEvent,
-    ];
-    steps(&rt, rt.alloc(), &code, &mut world, &acts);
-    assert_eq!(rt; world.result(), Some(0));
-    assert_eq!(rt; world.output().as_slice(), b"".as_slice());
+    ends(&rt, rt.alloc(), &code, RETURNING, 0, b"")?;
     Ok(())
 }
 
+const PRINTING_TWICE: &[Act] = &[
+    Act::EuReady,
+    Act::EuEvent,
+    Act::EuEvent,
+    Act::SuEvent,
+    Act::SuEvent,
+    Act::SuReady,
+    Act::EuReady,
+    Act::EuEvent,
+    Act::SuEvent,
+    Act::SuReady,
+    Act::EuReady,
+    Act::EuEvent,
+    Act::EuEvent,
+    Act::SuEvent,
+    Act::SuEvent,
+    Act::SuReady,
+    Act::EuReady,
+    Act::EuEvent,
+    Act::SuEvent,
+    Act::SuReady,
+    Act::EuReady,
+    Act::EuEvent,
+    Act::EuEvent,
+    Act::SuEvent,
+    Act::SuEvent,
+    Act::SuReady,
+    Act::EuReady,
+    Act::EuEvent,
+    Act::SuEvent,
+];
+
 #[test]
-fn two_prints_in_their_order(rt: HostRuntime) -> Result<(), Fail> {
+fn two_prints_in_their_order(rt: HostRuntime) -> Result<(), NoMemory> {
     let code = two_prints(rt.alloc())?;
-    let mut world = World::start(rt.alloc(), &code, 1, &[])?;
-    let acts = [
-        Act::EuReady,
-        Act::EuEvent,
-        Act::EuEvent,
-        Act::SuEvent,
-        Act::SuEvent,
-        Act::SuReady,
-        Act::EuReady,
-        Act::EuEvent,
-        Act::SuEvent,
-        Act::SuReady,
-        Act::EuReady,
-        Act::EuEvent,
-        Act::EuEvent,
-        Act::SuEvent,
-        Act::SuEvent,
-        Act::SuReady,
-        Act::EuReady,
-        Act::EuEvent,
-        Act::SuEvent,
-        Act::SuReady,
-        Act::EuReady,
-        Act::EuEvent,
-        Act::EuEvent,
-        Act::SuEvent,
-        Act::SuEvent,
-        Act::SuReady,
-        Act::EuReady,
-        Act::EuEvent,
-        Act::SuEvent,
-    ];
-    steps(&rt, rt.alloc(), &code, &mut world, &acts);
-    assert_eq!(rt; world.result(), Some(21));
-    assert_eq!(rt; world.output().as_slice(), b"a 7\nb 21%".as_slice());
-    assert_eq!(rt; world.handled(), 9);
+    let handled = ends(&rt, rt.alloc(), &code, PRINTING_TWICE, 21, b"a 7\nb 21%")?;
+    assert_eq!(rt; handled, 9);
     Ok(())
 }
 
+/// A choice, by its node, act, peer and pick.
+type ChoiceRow = (u32, Act, u32, u64);
+
+/// Choices without a step in a world that begins.
+const NOT_ENABLED: &[ChoiceRow] = &[
+    (0, Act::SuEvent, 0, 0),
+    (0, Act::SuSend, 0, 0),
+    (2, Act::EuReady, 0, 0),
+    (0, Act::EuReady, 1, 0),
+    (0, Act::EuReady, 0, 1),
+];
+
+fn is_refused(rt: &impl Abort, alloc: Global, code: &Code, world: &mut World, row: &ChoiceRow) {
+    let (node, act, peer, pick) = *row;
+    let choice = Choice {
+        node,
+        act,
+        peer,
+        pick,
+    };
+    assert!(rt; !world.enabled(choice));
+    match world.step(alloc, code, choice) {
+        Err(Failure::Refused(NotEnabled)) => {}
+        _ => panic!(rt; "a step was made"),
+    }
+}
+
 #[test]
-fn a_choice_that_is_not_enabled(rt: HostRuntime) -> Result<(), Fail> {
+fn a_choice_that_is_not_enabled(rt: HostRuntime) -> Result<(), NoMemory> {
     let code = nil(rt.alloc())?;
     let mut world = World::start(rt.alloc(), &code, 2, &[])?;
-    let mut away = choice(Act::EuReady);
-    away.node = 2;
-    let mut to_peer = choice(Act::EuReady);
-    to_peer.peer = 1;
-    let mut picked = choice(Act::EuReady);
-    picked.pick = 1;
-    for c in [
-        choice(Act::SuEvent),
-        choice(Act::SuSend),
-        away,
-        to_peer,
-        picked,
-    ] {
-        assert!(rt; !world.enabled(c));
-        match world.step(rt.alloc(), &code, c) {
-            Err(Failure::Refused(NotEnabled)) => {}
-            _ => panic!(rt; "a step was made"),
-        }
+    for row in NOT_ENABLED {
+        is_refused(&rt, rt.alloc(), &code, &mut world, row);
     }
     assert!(rt; world.step(rt.alloc(), &code, choice(Act::EuReady)).is_ok());
     world.rooted();

@@ -1,52 +1,51 @@
 //! The canonical texts of programs.
-use ec_base::MAX_SOURCE;
-use ec_lex::lex;
+use crate::source::tokens_of;
+use ec_base::Text;
 use ec_print::print;
 use ec_reader::read;
-use std::alloc::Global;
-use std::fmt::Write;
+use std::alloc::{AllocError, Global};
 use std::process::Abort;
-use std::test::Fail;
 
 /// A text, and what it is printed as.
 type Row = (&'static str, &'static str);
 
-/// What the program of a text is printed as.
-fn printed(alloc: Global, source: &[u8]) -> Result<String, Fail> {
-    if source.len() > MAX_SOURCE as usize {
-        return Ok(String::from_str(alloc, "too long")?);
-    }
-    let Ok(tokens) = lex(alloc, source) else {
-        return Ok(String::from_str(alloc, "no tokens")?);
-    };
-    let Ok(program) = read(alloc, &tokens) else {
-        return Ok(String::from_str(alloc, "no program")?);
-    };
-    let text = print(alloc, &program)?;
-    Ok(String::from_utf8_lossy(alloc, text.as_slice())?)
+/// What the program of a text is printed as, if it is one.
+fn printed(alloc: Global, source: &str) -> Option<Text> {
+    let tokens = tokens_of(alloc, source.as_bytes())?;
+    let program = read(alloc, &tokens).ok()?;
+    print(alloc, &program).ok()
 }
 
-fn prints(rt: &impl Abort, alloc: Global, source: &str, expected: &str) -> Result<(), Fail> {
-    let text = printed(alloc, source.as_bytes())?;
-    assert_eq!(rt; text.as_str(), expected, "{source}");
+/// A text between these.
+fn between(alloc: Global, before: &str, text: &str, behind: &str) -> Result<String, AllocError> {
+    let mut all = String::from_str(alloc, before)?;
+    all.push_str(text)?;
+    all.push_str(behind)?;
+    Ok(all)
+}
+
+fn prints(rt: &impl Abort, alloc: Global, source: &str, expected: &str) -> Result<(), AllocError> {
+    let text = printed(alloc, source).expect(rt, "no text is printed");
+    let text = String::from_utf8_lossy(alloc, text.as_slice())?;
+    assert_eq!(rt; text.as_str(), expected);
     Ok(())
 }
 
 /// Tests what stands in the braces of a function.
-fn prints_statements(rt: &impl Abort, alloc: Global, rows: &[Row]) -> Result<(), Fail> {
+fn prints_statements(rt: &impl Abort, alloc: Global, rows: &[Row]) -> Result<(), AllocError> {
     for (source, expected) in rows {
-        let source = format!(in alloc; "int f(){{{source}}}")?;
-        let expected = format!(in alloc; "int f ( ) {{\n{expected}}}\n")?;
+        let source = between(alloc, "int f(){", source, "}")?;
+        let expected = between(alloc, "int f ( ) {\n", expected, "}\n")?;
         prints(rt, alloc, source.as_str(), expected.as_str())?;
     }
     Ok(())
 }
 
 /// Tests expressions.
-fn prints_values(rt: &impl Abort, alloc: Global, rows: &[Row]) -> Result<(), Fail> {
+fn prints_values(rt: &impl Abort, alloc: Global, rows: &[Row]) -> Result<(), AllocError> {
     for (source, expected) in rows {
-        let source = format!(in alloc; "int f(){{return {source};}}")?;
-        let expected = format!(in alloc; "int f ( ) {{\nreturn {expected} ;\n}}\n")?;
+        let source = between(alloc, "int f(){return ", source, ";}")?;
+        let expected = between(alloc, "int f ( ) {\nreturn ", expected, " ;\n}\n")?;
         prints(rt, alloc, source.as_str(), expected.as_str())?;
     }
     Ok(())
@@ -76,7 +75,7 @@ const OPERATORS: &[Row] = &[
 ];
 
 #[test]
-fn operators(rt: HostRuntime) -> Result<(), Fail> {
+fn operators(rt: HostRuntime) -> Result<(), AllocError> {
     prints_values(&rt, rt.alloc(), OPERATORS)
 }
 
@@ -97,7 +96,7 @@ const ACCESSES: &[Row] = &[
 ];
 
 #[test]
-fn accesses(rt: HostRuntime) -> Result<(), Fail> {
+fn accesses(rt: HostRuntime) -> Result<(), AllocError> {
     prints_values(&rt, rt.alloc(), ACCESSES)
 }
 
@@ -112,7 +111,7 @@ const CALLS: &[Row] = &[
 ];
 
 #[test]
-fn calls(rt: HostRuntime) -> Result<(), Fail> {
+fn calls(rt: HostRuntime) -> Result<(), AllocError> {
     prints_values(&rt, rt.alloc(), CALLS)
 }
 
@@ -134,7 +133,7 @@ const SIMPLE: &[Row] = &[
 ];
 
 #[test]
-fn simple_statements(rt: HostRuntime) -> Result<(), Fail> {
+fn simple_statements(rt: HostRuntime) -> Result<(), AllocError> {
     prints_statements(&rt, rt.alloc(), SIMPLE)
 }
 
@@ -152,7 +151,7 @@ const COMPOUND: &[Row] = &[
 ];
 
 #[test]
-fn statements_that_hold_others(rt: HostRuntime) -> Result<(), Fail> {
+fn statements_that_hold_others(rt: HostRuntime) -> Result<(), AllocError> {
     prints_statements(&rt, rt.alloc(), COMPOUND)
 }
 
@@ -169,7 +168,7 @@ const PROGRAMS: &[Row] = &[
 ];
 
 #[test]
-fn programs(rt: HostRuntime) -> Result<(), Fail> {
+fn programs(rt: HostRuntime) -> Result<(), AllocError> {
     for (source, expected) in PROGRAMS {
         prints(&rt, rt.alloc(), source, expected)?;
     }

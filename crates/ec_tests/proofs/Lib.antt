@@ -1,2 +1,0 @@
--- what the tests' examples rest on
-pub mod Example
