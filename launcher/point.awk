@@ -18,8 +18,6 @@ BEGIN {
         least[byte] = byte == 224 ? 160 : byte == 240 ? 144 : 128
         most[byte] = byte == 237 ? 159 : byte == 244 ? 143 : 191
     }
-    reserved = " int void struct if else while for forall return local shared malloc sizeof printf NULL writeto addto valueof"
-    reserved = reserved " OWNER_OF HOME NODE ANYWHERE "
 }
 
 {
@@ -156,6 +154,7 @@ function sentence() {
     if (number == 10) return of_unexpected()
     if (number == 11) return "nested more than 64 deep"
     if (number == 12) return of_limit()
+    if (number > 19) return of_types()
     return "refused"
 }
 
@@ -181,20 +180,35 @@ function is_word() {
     return token ~ /^[A-Za-z_]/
 }
 
-function is_name() {
-    return is_word() && !index(reserved, " " token " ")
-}
-
 function of_unbuilt() {
-    if (from == to) return "the file has no function main"
-    if (is_name()) return "only small programs run yet, and none has " quoted() " here: is it declared before?"
-    if (first == 34) return "only small programs run yet, and none has this string here: it may have %d, %ld and %%"
+    if (token ~ /^(\{\^|forall)/) return "parallel sequences and foralls are not built yet"
+    if (first == 34) return "only small programs run yet, and none has this string here"
     return "only small programs run yet, and none has " quoted() " here"
 }
 
 function of_unexpected(    hint) {
     if ((is_first || token == "}") && last ~ /[]0-9A-Za-z_")]/) hint = ": is a `;` missing?"
     return "syntax error: unexpected " (from == to ? "end of file" : first == 34 ? "string" : quoted()) hint
+}
+
+function of_types() {
+    if (number == 20) return quoted() " isn't declared here"
+    if (number == 21) return quoted() " is declared before"
+    if (number == 22) return "types don't go together"
+    if (number == 23) return "a local pointer is asked here"
+    if (number == 24) return "a shared name may not stand here"
+    if (number == 25) return "no return may stand in a branch or a forall"
+    if (number == 26) return "nothing may be printed in a branch or a forall"
+    if (number == 27) return "the file has no main that gives an int and takes ints"
+    if (number == 28) return "a struct has at most 64 cells, an array 1 to 64"
+    if (number == 29) return of_header()
+    return "refused"
+}
+
+# a header's left side that isn't its variable, or a call or malloc in it
+function of_header() {
+    if (token ~ /\(/) return "no call or malloc may stand in the header of a forall"
+    return "both assignments of a forall set one and the same variable"
 }
 
 function of_limit() {

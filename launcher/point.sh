@@ -23,12 +23,10 @@ point() { # LINE FILE BYTES
             -v start="$start" -v before="$before" -f "$parts/point.awk" >&2 2>/dev/null
 }
 
-# Asks again for the line of a refusal that the program has written to a stream of the caller's. `run` refuses what `check`
-# does.
+# Asks again for the line of a refusal that the program has written to a stream of the caller's. A source that is refused
+# isn't run.
 point_again() { # COMMAND FILE
-    asked=$1
-    [ "$asked" = print ] || asked=check
-    line=$("$program" "$asked" "$2" 2>&1 >/dev/null)
+    line=$("$program" "$1" "$2" 2>&1 >/dev/null)
     case $line in
         'refused '*) point "$line" "$2" "$2" ;;
     esac

@@ -9,17 +9,14 @@ for file in "$top"/examples/*.ec; do
     prints "${file##*/}" "$file"
 done
 
-# leaves FILE TEXT COUNT: the first so many bytes of the text, where it stands first in the example, are a token with which
-# no program goes on that runs today
+# leaves FILE PLACE: the example is refused with 9 at its parallel sequence or `forall`, which stands there
 leaves() {
-    from=$(grep -b -o -F -- "$2" "$top/examples/$1" | head -n 1)
-    from=${from%%:*}
-    expect "$1, checked" 2 '' "refused 9 at $from..$((from + $3)) NotYet\n" -- check "$top/examples/$1"
+    expect "$1, checked" 2 '' "refused 9 at $2 NotYet\n" -- check "$top/examples/$1"
 }
-leaves fib.ec     'fib(int n)'  3
-leaves list.ec    'struct cell' 6
-leaves squares.ec '*a;'         1
-leaves tree.ec    'struct tree' 6
+leaves fib.ec     204..260
+leaves list.ec    584..720
+leaves squares.ec 207..248
+leaves tree.ec    347..415
 
 # what is tried byte by byte, and what is run, are copies of the examples
 for file in "$top"/examples/*.ec; do

@@ -50,28 +50,37 @@ gives() {
     expect "$1, run as printed" 0 "$2" "result $3\n" -- run once.ec
 }
 
-# refused NAME LINE: case.ec is refused with this line, whether it is to be checked, run or printed; with 9 it is printed
+# refused NAME LINE: case.ec is refused with this line, whether it is to be checked, run or printed; by types it is printed
 refused() {
     expect "$1, checked" 2 '' "$2\n" -- check case.ec
     expect "$1" 2 '' "$2\n" -- run case.ec
     case $2 in
-        'refused 9 '*) prints "$1" case.ec ;;
+        'refused 2'[0-9]*) prints "$1" case.ec ;;
         *) expect "$1, printed" 2 '' "$2\n" -- print case.ec ;;
     esac
 }
 
-# refuses NUMBER KIND NAME SOURCE: the source is refused so, at the marked place
-refuses() {
-    before=${4%%«*}
-    after=${4#*«}
-    place=${after%%»*}
-    printf '%s' "$before$place${after#*»}" >case.ec
-    refused "$3" "refused $1 at ${#before}..$((${#before} + ${#place})) $2"
+# marked SOURCE: writes the source without its marks to case.ec, and the place between them to $place
+marked() {
+    before=${1%%«*}
+    after=${1#*«}
+    inside=${after%%»*}
+    printf '%s' "$before$inside${after#*»}" >case.ec
+    place=${#before}..$((${#before} + ${#inside}))
 }
 
-# stops NAME SOURCE: a program, but none of the forms that are built goes on with the marked token
+# refuses NUMBER KIND NAME SOURCE: the source is refused so, at the marked place
+refuses() {
+    marked "$4"
+    refused "$3" "refused $1 at $place $2"
+}
+
+# stops NAME SOURCE: the source is accepted, but no program that runs goes on with the marked token
 stops() {
-    refuses 9 NotYet "$1" "$2"
+    marked "$2"
+    expect "$1, checked" 0 'accepted\n' '' -- check case.ec
+    expect "$1" 2 '' "refused 9 at $place NotYet\n" -- run case.ec
+    prints "$1" case.ec
 }
 
 # unexpected NAME SOURCE: no program goes on with the marked token

@@ -14,7 +14,7 @@ makes() {
     esac
 }
 
-for number in 1 2 3 4 5 6 7 9 10 11 12; do
+for number in 1 2 3 4 5 6 7 9 10 11 12 20 21 22 23 24 25 26 27 28 29; do
     status=0; "$house/earthc" --explain "$number" >page 2>"$err" </dev/null || status=$?
     cp "$top/docs/refusals/$number.txt" "$out"
     cmp page "$out" >"$folder/differs"; cp "$folder/differs" "$out"
@@ -41,8 +41,8 @@ for command in check print run; do
 done
 awk 'length($0) > 75 { print FILENAME ": " $0 }' "$top"/docs/commands/*.txt "$top"/docs/refusals/*.txt >"$out"
 : >"$err"; status=0; judge 'the width of the pages' 0 '' ''
-launches 'no refusal' 1 '' "earthc: there is no refusal '8': the refusals are 1 to 7 and 9 to 12\n" -- --explain 8
-launches 'no number' 1 '' "earthc: there is no refusal '../1': the refusals are 1 to 7 and 9 to 12\n" -- --explain ../1
+launches 'no refusal' 1 '' "earthc: there is no refusal '8': the refusals are 1 to 7, 9 to 12 and 20 to 29\n" -- --explain 8
+launches 'no number' 1 '' "earthc: there is no refusal '../1': the refusals are 1 to 7, 9 to 12 and 20 to 29\n" -- --explain ../1
 launches 'no page' 1 '' "earthc: there is no command 'walk': the commands are check, print and run\n" -- --help walk
 launches 'the version' 0 'earthc 0.1.0\n' '' -- --version
 launches 'three words' 1 '' 'words refused\n' -- --help run run
@@ -50,7 +50,8 @@ launches 'three words' 1 '' 'words refused\n' -- --help run run
 status=0; "$house/earthc" --help >page 2>"$err" </dev/null || status=$?
 head -n 1 page >"$out"
 judge 'the page of help' 0 'usage: earthc COMMAND FILE\n' ''
-for word in BadByte BadNumber OpenComment OpenString BadEscape HashLine TooLong NotYet Expected TooDeep TooMany accepted \
+for word in BadByte BadNumber OpenComment OpenString BadEscape HashLine TooLong NotYet Expected TooDeep TooMany Unknown Twice Mismatch NotLocal SharedEscapes ReturnInside PrintInside NoMain \
+    StructTooBig HeaderForm accepted \
     print 'words refused' --build --explain; do
     grep -F -o -- "$word" page | head -n 1 >"$out"
     judge "help on $word" 0 "$word\n" ''

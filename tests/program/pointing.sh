@@ -30,8 +30,8 @@ points 'several lines' check 'int main() {\n  /* return\n  0; }\n' \
     'case.ec:2:3: this comment is not closed: `*/` is missing\n  /* return\n  ^~~~~~~~~'
 points 'the end of a line' check 'int main() {' 'case.ec:1:13: syntax error: unexpected end of file\nint main() {\n            ^'
 points 'behind the last line' check 'int main() {\n' 'case.ec:2:1: syntax error: unexpected end of file\n\n^'
-points 'an empty file' check '' 'case.ec:1:1: the file has no function main\n\n^'
-points 'nothing but lines' run '\n\n' 'case.ec:3:1: the file has no function main\n\n^'
+points 'an empty file' check '' 'case.ec:1:1: the file has no main that gives an int and takes ints\n\n^'
+points 'nothing but lines' run '\n\n' 'case.ec:3:1: the file has no main that gives an int and takes ints\n\n^'
 
 # a line of more than 80 characters is cut to 74 and dots
 forty=$(repeat 40 é)
@@ -77,9 +77,13 @@ points 'a line with #' print '#if 0\n' 'case.ec:1:1: a line that begins with `#`
 points 'a missing ;' print 'int f() {\n  return 0\n}' 'case.ec:3:1: syntax error: unexpected `}`: is a `;` missing?\n}\n^'
 points 'an odd string' print 'int f() { "a" }' 'case.ec:1:11: syntax error: unexpected string\nint f() { "a" }\n          ^~~'
 points 'an unknown name' run 'int main() { return rest; }' \
-    'case.ec:1:21: only small programs run yet, and none has `rest` here: is it declared before?\nint main() { return rest; }\n                    ^~~~'
-points 'a string that does not run' run 'int main() { printf("%%s"); return 0; }' \
-    'case.ec:1:21: only small programs run yet, and none has this string here: it may have %d, %ld and %%\nint main() { printf("%s"); return 0; }\n                    ^~~~'
+    'case.ec:1:21: `rest` isn\047t declared here\nint main() { return rest; }\n                    ^~~~'
+points 'a string that asks for no int' run 'int main() { printf("%%s"); return 0; }' \
+    'case.ec:1:14: types don\047t go together\nint main() { printf("%s"); return 0; }\n             ^~~~~~~~~~~~'
+points 'a parallel sequence' check 'int main() { {^ ; ^} }' \
+    'case.ec:1:14: parallel sequences and foralls are not built yet\nint main() { {^ ; ^} }\n             ^~~~~~~'
+points 'a string that does not run' run 'int main() { int x; x = 1; { printf("a"); } return 0; }' \
+    'case.ec:1:28: only small programs run yet, and none has `{` here\nint main() { int x; x = 1; { printf("a"); } return 0; }\n                           ^'
 points 'too deep' print "int main() { $(repeat 64 '{') }" \
     "case.ec:1:79: nested more than 64 deep\nint main() { $(repeat 64 '{') }\n$(repeat 78 ' ')^"
 points 'a long name' print "struct $(repeat 65 a)" \

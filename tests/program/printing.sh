@@ -75,7 +75,7 @@ begins() {
         refused "the first $1 bytes" "refused 4 at ${#string}..$1 OpenString"
     else
         told='10 Expected'
-        [ "$1" -gt "${#first}" ] || told='9 NotYet'
+        [ "$1" -gt "${#first}" ] || told='27 NoMain'
         status=0
         "$program" run case.ec >"$out" 2>"$err" </dev/null || status=$?
         line=$(cat "$err")

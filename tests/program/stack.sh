@@ -10,7 +10,7 @@ slim() {
         (ulimit -s 1024 && exec "$program" "$command" case.ec) >"$out" 2>"$err" </dev/null || status=$?
         case $command,$status in
             print,0 | check,0) : ;;
-            check,2) grep -q '^refused 9 ' "$err" && status=0 && : >"$err" ;;
+            check,2) grep -q -e '^refused 9 ' -e '^refused 2[0-9] ' "$err" && status=0 && : >"$err" ;;
         esac
         : >"$out"
         judge "$1, $command with a small stack" 0 '' ''

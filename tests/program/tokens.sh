@@ -77,8 +77,8 @@ at() {
     printf "$5" >case.ec
     refused "$4" "refused $1 at $3 $2"
 }
-at 9 NotYet  0..0   'the empty file'          ''
-at 9 NotYet  2..2   'nothing but blanks'      ' \n'
+at 27 NoMain 0..0   'the empty file'          ''
+at 27 NoMain 2..2   'nothing but blanks'      ' \n'
 at 1 BadByte 0..1   'a byte order mark'       '\357\273\277int main(){ }'
 at 1 BadByte 12..13 'a zero byte'             'int main(){ \000 return 0; }'
 at 1 BadByte 12..13 'a form feed'             'int main(){ \014 return 0; }'

@@ -61,7 +61,7 @@ refused 'a byte too many' 'refused 7 at 1048576..1048577 TooLong'
 printf '$%1048576s' '' >case.ec
 refused 'a byte too many, no token' 'refused 7 at 1048576..1048577 TooLong'
 printf '%1048576s' '' >case.ec
-refused 'the most bytes' 'refused 9 at 1048576..1048576 NotYet'
+refused 'the most bytes' 'refused 27 at 1048576..1048576 NoMain'
 printf '%1048575s$' '' >case.ec
 refused 'the most bytes, no token' 'refused 1 at 1048575..1048576 BadByte'
 printf '%-1048576s' 'int main(){ return 8; }' >long.ec
