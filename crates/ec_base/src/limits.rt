@@ -53,3 +53,12 @@ pub const MAX_NODES: u32 = 16;
 
 /// The entries of a ring.
 pub const MAX_RING: u32 = 64;
+
+/// The cells of a block.
+pub const MAX_BLOCK: u32 = 1_048_576;
+
+/// The activations that may be open at once where a meaning is evaluated.
+pub const MAX_ACTIVATIONS: u32 = 512;
+
+/// The ticks that the evaluation of a meaning may spend.
+pub const MAX_TICKS: u32 = 16_777_216;
