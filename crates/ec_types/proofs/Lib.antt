@@ -10,3 +10,5 @@ pub mod Variables
 pub mod Verdicts
 pub mod SizeTables
 pub mod Once
+-- laws of meanings
+pub mod meaning

@@ -1,5 +1,5 @@
 -- A program has one verdict.
-use Rattle.std.proofs.Common.{◌≡◌, sym, ◌∙◌, ap, subst, List, [], Result, Ok, Err}
+use Rattle.std.proofs.Common.{◌≡◌, sym, ◌∙◌, ap, subst, List, [], Ok, Err}
 use Rattle.std.proofs.lemmas.Option.{same_Some}
 use Rattle.ec_types.specs.declared.refusal.TypeRefusal.{TypeRefusal}
 use Rattle.ec_types.specs.Judged.{Fine}

@@ -17,6 +17,8 @@ pub mod Declarations
 pub mod Sizes
 pub mod Programs
 pub mod Once
+-- what programs mean
+pub mod Meaning
 -- what the functions inside the crate promise each other
 pub mod Seen
 pub mod Places

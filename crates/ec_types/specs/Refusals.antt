@@ -1,5 +1,5 @@
 -- Refusals: their numbers, and which of them comes first.
-use Rattle.std.specs.Prelude.{◌≡◌, ℕ, ◌==◌, Bool, ◌||◌, ◌&&◌, nat_lt, if◌then◌else◌, List, [], ◌∷◌, Option, Some, None}
+use Rattle.std.specs.Prelude.{◌≡◌, ◌==◌, Bool, ◌||◌, ◌&&◌, nat_lt, if◌then◌else◌, List, [], ◌∷◌, Option, Some, None}
 use Rattle.ec_base.specs.declared.token.Span.{Span}
 use Rattle.ec_base.specs.Reason.{number_of}
 use Rattle.ec_base.specs.declared.reason.Reason.{Reason}

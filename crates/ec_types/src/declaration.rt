@@ -7,7 +7,7 @@ use crate::declared_type::{is_parameter, is_variable};
 use crate::judge::{Judge, is_local_mode, is_shared_mode};
 use crate::judged::{Judged, also, must};
 use crate::names::known;
-use crate::value_type::{ExprType, value_type};
+use crate::value_type::{ExprType, written_type};
 use ec_base::Reason;
 use ec_syntax::{Decl, Expr};
 
@@ -17,7 +17,7 @@ impl Judge<'_> {
     fn initial(&self, d: &Decl, e: &Expr) -> Judged<()>
         ensures { Gives result (declarations.initial (context self.now) d.now e.now) }
     {
-        let target = ExprType::Value(value_type(self.alloc, &d.ty)?);
+        let target = ExprType::Value(written_type(self.alloc, &d.ty)?);
         match self.value(e) {
             Err(fail) => Err(fail),
             Ok(t) => self.fits_into(d.name.at, &target, is_local_mode(d.mode), e, &t),

@@ -14,7 +14,8 @@ pub(crate) fn is_written_int(ty: &Ty) -> bool
     }
 }
 
-pub(crate) fn is_written_pointer(ty: &Ty) -> bool
+/// Whether the written type is a pointer.
+pub fn is_written_pointer(ty: &Ty) -> bool
     ensures { result ≡ types.is_pointer (types.value_type ty.now) }
 {
     match ty.base {

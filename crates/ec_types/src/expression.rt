@@ -16,7 +16,7 @@ use crate::judged::{Judged, also, refused, refused_beside};
 use crate::names::{ending, known, member};
 use crate::operators::{allocated, struct_behind, variable_type};
 use crate::rules::{typed, valued};
-use crate::value_type::{ExprType, number, value_type};
+use crate::value_type::{ExprType, number, written_type};
 use ec_base::{Reason, Span, Text};
 use ec_syntax::{Call, Decl, Expr, ExprKind, Func, Placement, Ty};
 use std::alloc::AllocError;
@@ -146,7 +146,7 @@ impl<'a> Judge<'a> {
         ensures { IfOk result (λ t. t ≡ arguments.result_type f.now fits) }
     {
         if fits {
-            Ok(Some(ExprType::Value(value_type(self.alloc, &f.result)?)))
+            Ok(Some(ExprType::Value(written_type(self.alloc, &f.result)?)))
         } else {
             Ok(None)
         }

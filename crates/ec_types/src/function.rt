@@ -15,7 +15,7 @@ use crate::judge::Judge;
 use crate::judged::{Judged, also, must};
 use crate::name_list::NameList;
 use crate::names::known;
-use crate::value_type::{ValueType, value_type};
+use crate::value_type::{ValueType, written_type};
 use ec_base::Reason;
 use ec_calls::FirstPrints;
 use ec_syntax::{Base, Decl, Func, Ty};
@@ -110,7 +110,7 @@ fn judge_of<'a>(
 fn function(alloc: Global, tables: &Tables, f: &Func) -> Judged<()>
     ensures { Gives result (function_by tables.now f.now) }
 {
-    let result = value_type(alloc, &f.result)?;
+    let result = written_type(alloc, &f.result)?;
     let judge = judge_of(alloc, tables, &result, f)?;
     judge.function(f)
 }

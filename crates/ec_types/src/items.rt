@@ -2,6 +2,7 @@
 ghost use Rattle.std.specs.Prelude.{◌≡◌, ◌++◌, [], ◌∷◌, map, filter_map, option_copied, IfOk, OnOk};
 ghost use Rattle.ec_calls.specs.Items as declared;
 ghost use Rattle.ec_types.specs.Names as names;
+ghost use Rattle.ec_types.specs.Places.{place};
 
 use crate::table::NameTable;
 use ec_base::Text;
@@ -11,7 +12,7 @@ use std::marker::Model;
 
 /// Functions in order, by name. Contracts see their list.
 #[derive(Drop)]
-pub(crate) struct Functions<'a> {
+pub struct Functions<'a> {
     all: Vec<&'a Func>,
     names: NameTable<'a>,
 }
@@ -33,7 +34,7 @@ impl<'a> Model for Functions<'a> {
 
 impl<'a> Functions<'a> {
     /// The functions of a program.
-    pub(crate) fn of(alloc: Global, items: &'a [Item]) -> Result<Functions<'a>, AllocError>
+    pub fn of(alloc: Global, items: &'a [Item]) -> Result<Functions<'a>, AllocError>
         ensures { IfOk result (λ fs. fs ≡ filter_map declared.as_function items.now) }
     {
         let mut functions = Functions {
@@ -58,14 +59,21 @@ impl<'a> Functions<'a> {
         Ok(())
     }
 
-    pub(crate) fn all(&self) -> &[&'a Func]
+    pub fn all(&self) -> &[&'a Func]
         ensures { map (λ f. f.now) result.now ≡ self.now }
     {
         self.all.as_slice()
     }
 
+    /// Where the first function of this name stands.
+    pub fn place(&self, name: &Text) -> Option<usize>
+        ensures { result ≡ place (map (λ f. f.name.text) self.now) name.now }
+    {
+        self.names.place(name)
+    }
+
     /// The first function of this name.
-    pub(crate) fn named(&self, name: &Text) -> Option<&'a Func>
+    pub fn named(&self, name: &Text) -> Option<&'a Func>
         ensures { option_copied result ≡ declared.function_named self.now name.now }
     {
         match self.names.place(name) {
@@ -77,7 +85,7 @@ impl<'a> Functions<'a> {
 
 /// A struct, and its fields by name. Contracts see the struct.
 #[derive(Drop)]
-pub(crate) struct Struct<'a> {
+pub struct Struct<'a> {
     def: &'a StructDef,
     names: NameTable<'a>,
 }
@@ -104,14 +112,21 @@ impl<'a> Struct<'a> {
         Ok(Struct { def, names })
     }
 
-    pub(crate) fn def(&self) -> &'a StructDef
+    pub fn def(&self) -> &'a StructDef
         ensures { result.now ≡ self.now }
     {
         self.def
     }
 
+    /// Where the first field of this name stands.
+    pub fn place(&self, name: &Text) -> Option<usize>
+        ensures { result ≡ place (map (λ f. f.name.text) self.now.fields) name.now }
+    {
+        self.names.place(name)
+    }
+
     /// The first field of this name.
-    pub(crate) fn field(&self, name: &Text) -> Option<&'a Field>
+    pub fn field(&self, name: &Text) -> Option<&'a Field>
         ensures { option_copied result ≡ names.field_named self.now.fields name.now }
     {
         match self.names.place(name) {
@@ -123,7 +138,7 @@ impl<'a> Struct<'a> {
 
 /// Structs in order, by name. Contracts see their list.
 #[derive(Drop)]
-pub(crate) struct Structs<'a> {
+pub struct Structs<'a> {
     all: Vec<Struct<'a>>,
     names: NameTable<'a>,
 }
@@ -141,7 +156,7 @@ impl<'a> Model for Structs<'a> {
 
 impl<'a> Structs<'a> {
     /// The structs of a program.
-    pub(crate) fn of(alloc: Global, items: &'a [Item]) -> Result<Structs<'a>, AllocError>
+    pub fn of(alloc: Global, items: &'a [Item]) -> Result<Structs<'a>, AllocError>
         ensures { IfOk result (λ ss. ss ≡ filter_map declared.as_struct items.now) }
     {
         let mut structs = Structs {
@@ -167,14 +182,14 @@ impl<'a> Structs<'a> {
         Ok(())
     }
 
-    pub(crate) fn all(&self) -> &[Struct<'a>]
+    pub fn all(&self) -> &[Struct<'a>]
         ensures { result.now ≡ self.now }
     {
         self.all.as_slice()
     }
 
     /// The first struct of this name.
-    pub(crate) fn named(&self, name: &Text) -> Option<&Struct<'a>>
+    pub fn named(&self, name: &Text) -> Option<&Struct<'a>>
         ensures { option_copied result ≡ declared.struct_named self.now name.now }
     {
         match self.names.place(name) {

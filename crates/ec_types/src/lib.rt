@@ -31,7 +31,12 @@ mod typed;
 mod value_type;
 
 pub use checking::check;
-pub use laws::programs_are_refused_once;
+pub use declared_type::is_written_pointer;
+pub use items::{Functions, Struct, Structs};
+pub use laws::{meanings_are_settled, programs_are_refused_once};
+pub use operators::{field_type, pointee, pointer_to, struct_behind, variable_type};
 pub use refusal::TypeRefusal;
+pub use size::cells_of;
+pub use table::NameTable;
 pub use typed::Typed;
-pub use value_type::{ExprType, ValueBase, ValueType};
+pub use value_type::{ExprType, ValueBase, ValueType, number, written_type};

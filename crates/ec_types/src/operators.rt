@@ -6,7 +6,7 @@ ghost use Rattle.ec_types.specs.declared.value_type.ValueType.{ValueType};
 ghost use Rattle.ec_types.specs.Operators as operators;
 ghost use Rattle.ec_types.specs.Types as types;
 
-use crate::value_type::{ExprType, ValueBase, ValueType, is_same_type, number, value_type};
+use crate::value_type::{ExprType, ValueBase, ValueType, is_same_type, number, written_type};
 use ec_base::{BinOp, Text, UnOp};
 use ec_syntax::{Decl, Field, Mode, Ty};
 use std::alloc::{AllocError, Global};
@@ -65,7 +65,7 @@ pub(crate) fn logic_type(a: &ExprType, b: &ExprType) -> Option<ExprType>
 }
 
 /// Of `*e`.
-pub(crate) fn pointee(t: ExprType) -> Option<ExprType>
+pub fn pointee(t: ExprType) -> Option<ExprType>
     ensures { result ≡ operators.pointee t }
 {
     match t {
@@ -99,7 +99,7 @@ pub(crate) fn element_type(e: ExprType, i: &ExprType) -> Option<ExprType>
 }
 
 /// The struct behind so many pointers.
-pub(crate) fn struct_behind(stars: u64, t: &ExprType) -> Option<&Text>
+pub fn struct_behind(stars: u64, t: &ExprType) -> Option<&Text>
     ensures { option_copied result ≡ operators.struct_behind stars t.now }
 {
     match t {
@@ -117,17 +117,17 @@ pub(crate) fn struct_behind(stars: u64, t: &ExprType) -> Option<&Text>
     }
 }
 
-pub(crate) fn field_type(alloc: Global, f: &Field) -> Result<ExprType, AllocError>
+pub fn field_type(alloc: Global, f: &Field) -> Result<ExprType, AllocError>
     ensures { IfOk result (λ t. t ≡ operators.field_type f.now) }
 {
     match f.array {
         Some(_) => Ok(ExprType::Array),
-        None => Ok(ExprType::Value(value_type(alloc, &f.ty)?)),
+        None => Ok(ExprType::Value(written_type(alloc, &f.ty)?)),
     }
 }
 
 /// A variable or parameter as an expression.
-pub(crate) fn variable_type(alloc: Global, d: &Decl) -> Result<ExprType, AllocError>
+pub fn variable_type(alloc: Global, d: &Decl) -> Result<ExprType, AllocError>
     ensures { IfOk result (λ t. t ≡ operators.variable_type d.now) }
 {
     match d.mode {
@@ -138,7 +138,7 @@ pub(crate) fn variable_type(alloc: Global, d: &Decl) -> Result<ExprType, AllocEr
                 Ok(ExprType::Shared)
             }
         }
-        _ => Ok(ExprType::Value(value_type(alloc, &d.ty)?)),
+        _ => Ok(ExprType::Value(written_type(alloc, &d.ty)?)),
     }
 }
 
@@ -170,14 +170,14 @@ pub(crate) fn passes(alloc: Global, d: &Decl, t: &ExprType) -> Result<bool, Allo
     match d.mode {
         Mode::Shared => Ok(t.is_shared()),
         _ => {
-            let target = ExprType::Value(value_type(alloc, &d.ty)?);
+            let target = ExprType::Value(written_type(alloc, &d.ty)?);
             Ok(is_assignable(&target, t))
         }
     }
 }
 
 /// A pointer to elements of this type.
-fn pointer_to(element: ValueType) -> ValueType
+pub fn pointer_to(element: ValueType) -> ValueType
     requires { element.stars < 2 ^ 32 }
     ensures { result ≡ types.pointer_to element }
 {
@@ -192,7 +192,7 @@ fn cast_fits(alloc: Global, to: &Option<Ty>, block: &ValueType) -> Result<bool, 
 {
     match to {
         None => Ok(true),
-        Some(ty) => Ok(is_same_type(&value_type(alloc, ty)?, block)),
+        Some(ty) => Ok(is_same_type(&written_type(alloc, ty)?, block)),
     }
 }
 
@@ -205,7 +205,7 @@ pub(crate) fn allocated(
 ) -> Result<Option<ExprType>, AllocError>
     ensures { IfOk result (λ t. t ≡ operators.allocated to.now (types.value_type element.now) counts) }
 {
-    let element = value_type(alloc, element)?;
+    let element = written_type(alloc, element)?;
     let is_element = element.is_element();
     let block = pointer_to(element);
     if counts && is_element && cast_fits(alloc, to, &block)? {

@@ -13,7 +13,8 @@ fn magnitude(length: i64) -> u64
     if length < 0 { 0 } else { length as u64 }
 }
 
-fn cells_of(f: &Field) -> u64
+/// The cells of a field: one, or as many as its length.
+pub fn cells_of(f: &Field) -> u64
     ensures { result ≡ sizes.cells_of f.now.array }
 {
     match f.array {

@@ -10,7 +10,7 @@ use std::marker::Model;
 
 /// Names in order, and where each of them stands first. Contracts see their list.
 #[derive(Drop)]
-pub(crate) struct NameTable<'a> {
+pub struct NameTable<'a> {
     names: Vec<&'a Text>,
     places: IndexMap<&'a [u8], usize>,
 }
@@ -44,7 +44,7 @@ fn note<'a>(
 }
 
 impl<'a> NameTable<'a> {
-    pub(crate) fn new(alloc: Global) -> NameTable<'a>
+    pub fn new(alloc: Global) -> NameTable<'a>
         ensures { result ≡ [] }
     {
         NameTable {
@@ -54,7 +54,7 @@ impl<'a> NameTable<'a> {
     }
 
     /// Puts a name behind the others.
-    pub(crate) fn push(&mut self, name: &'a Text) -> Result<(), AllocError>
+    pub fn push(&mut self, name: &'a Text) -> Result<(), AllocError>
         ensures ok { OnOk result (self.new ≡ self.old ++ name.now ∷ []) }
         ensures err { OnErr result (self.new ≡ self.old) }
     {
@@ -65,7 +65,7 @@ impl<'a> NameTable<'a> {
     }
 
     /// Where the name stands first.
-    pub(crate) fn place(&self, name: &Text) -> Option<usize>
+    pub fn place(&self, name: &Text) -> Option<usize>
         ensures { result ≡ place self.now name.now }
     {
         self.places.get(name.as_slice()).copied()

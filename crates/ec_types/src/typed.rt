@@ -2,10 +2,12 @@
 ghost use Rattle.std.specs.Prelude.{◌≡◌, true, filter_map, IfOk, OnOk};
 ghost use Rattle.std.specs.List.{list_all};
 ghost use Rattle.ec_calls.specs.Items.{as_struct};
+ghost use Rattle.ec_calls.specs.Items as declared;
 ghost use Rattle.ec_types.specs.Programs.{IsTyped};
 ghost use Rattle.ec_types.specs.Sizes as sizes;
 ghost use Rattle.ec_types.specs.Tables.{HasSizes, TakesStruct};
 
+use crate::items::Structs;
 use crate::size::cells;
 use ec_base::Text;
 use ec_syntax::{Item, Program, StructDef};
@@ -78,6 +80,14 @@ impl Typed {
         ensures { result.now ≡ self.now }
     {
         &self.program
+    }
+
+    /// The structs of the program.
+    pub fn structs(&self, alloc: Global) -> Result<Structs<'_>, AllocError>
+        ensures structs { IfOk result (λ ss. ss ≡ declared.structs self.now) }
+        ensures small { list_all sizes.is_small (declared.structs self.now) ≡ true }
+    {
+        Structs::of(alloc, self.program.items.as_slice())
     }
 
     /// The cells of the struct of this name, if there is one.

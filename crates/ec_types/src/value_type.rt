@@ -48,7 +48,7 @@ pub(crate) fn int() -> ValueType
 }
 
 /// What an int is as an expression.
-pub(crate) fn number() -> ExprType
+pub fn number() -> ExprType
     ensures { result ≡ types.number }
 {
     ExprType::Value(int())
@@ -146,7 +146,7 @@ impl ExprType {
         }
     }
 
-    pub(crate) fn is_array(&self) -> bool
+    pub fn is_array(&self) -> bool
         ensures { result ≡ types.is_array self.now }
     {
         match self {
@@ -191,7 +191,7 @@ fn base_of(alloc: Global, base: &Base) -> Result<ValueBase, AllocError>
 }
 
 /// A written type.
-pub(crate) fn value_type(alloc: Global, ty: &Ty) -> Result<ValueType, AllocError>
+pub fn written_type(alloc: Global, ty: &Ty) -> Result<ValueType, AllocError>
     ensures typed { IfOk result (λ t. t ≡ types.value_type ty.now) }
     ensures few { IfOk result (λ t. t.stars < 2 ^ 32) }
 {

@@ -1,4 +1,4 @@
-use Rattle.std.proofs.Common.{subst, sym, Result, Err}
+use Rattle.std.proofs.Common.{subst, sym, Err}
 use Rattle.ec_base.specs.declared.fail.Fail.TheVariants.{Refused}
 use Rattle.ec_types.specs.Judged.{Gives, both}
 use Rattle.ec_types.proofs.Judgements.{both_refused}
