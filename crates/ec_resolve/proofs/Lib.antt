@@ -1,0 +1,5 @@
+pub mod Places
+pub mod Named
+pub mod Cells
+pub mod Terms
+pub mod Lists

@@ -1,0 +1,21 @@
+//! Typed programs with their names and types resolved, as `ec_types` defines it.
+#![tactic(auto)]
+
+mod access;
+mod action;
+mod assigning;
+mod expression;
+mod fields;
+mod layouts;
+mod operand;
+mod resolving;
+mod scope;
+mod statement;
+mod term;
+mod variables;
+
+pub use action::{
+    Action, Assignment, Block, Declared, ForHeader, ForallHeader, Function, Resolved,
+};
+pub use resolving::resolve;
+pub use term::{Allocation, Extent, Invocation, Place, Placing, Term};

@@ -1,0 +1,90 @@
+//! Resolving programs.
+ghost use Rattle.std.specs.Prelude.{◌≡◌, length, map, codes, IfOk};
+ghost use Rattle.ec_calls.specs.Items as items;
+ghost use Rattle.ec_types.specs.Meaning.Resolution as resolution;
+ghost use Rattle.ec_resolve.specs.Erased as erased;
+ghost use Rattle.ec_resolve.specs.Seen.{scope};
+
+use crate::action::{Function, Resolved};
+use crate::layouts::Layouts;
+use crate::scope::Scope;
+use ec_base::{List, Text};
+use ec_syntax::{Decl, Func};
+use ec_types::{Functions, Typed, is_written_pointer};
+use std::alloc::{AllocError, Global};
+
+impl Scope<'_> {
+    /// The numbers of variables of the function.
+    fn numbers(&self, all: &[Decl]) -> Result<List<usize>, AllocError>
+        ensures { IfOk result (λ l. l ≡ map (λ d. resolution.variable_number (scope self.now) d.name.text) all.now) }
+    {
+        let mut numbers = List::new(self.alloc);
+        for d in all {
+            numbers.push(self.variable_number(&d.name.text))?;
+        }
+        Ok(numbers)
+    }
+
+    fn function(&self, f: &Func) -> Result<Function, AllocError>
+        ensures function { IfOk result (λ r. erased.function r ≡ resolution.function_in (scope self.now) f.now) }
+        ensures variables { IfOk result (λ r. r.variables ≡ length (scope self.now).variables) }
+    {
+        let params = self.numbers(f.params.as_slice())?;
+        let body = self.body(&f.body)?;
+        Ok(Function {
+            params,
+            variables: self.variables.len(),
+            pointer: is_written_pointer(&f.result),
+            body,
+        })
+    }
+}
+
+fn function(
+    alloc: Global,
+    structs: &Layouts,
+    functions: &Functions,
+    f: &Func,
+) -> Result<Function, AllocError>
+    ensures function { IfOk result (λ r. erased.function r ≡ resolution.function structs.now functions.now f.now) }
+    ensures variables { IfOk result (λ r. r.variables ≡ length (resolution.variables f.now)) }
+{
+    let scope = Scope::of(alloc, structs, functions, f)?;
+    scope.function(f)
+}
+
+fn all_functions(
+    alloc: Global,
+    structs: &Layouts,
+    functions: &Functions,
+) -> Result<List<Function>, AllocError>
+    ensures functions { IfOk result (λ l. map erased.function l ≡ map (resolution.function structs.now functions.now) functions.now) }
+    ensures variables { IfOk result (λ l. map (λ r. r.variables) l ≡ map (λ f. length (resolution.variables f)) functions.now) }
+{
+    let mut all = List::new(alloc);
+    for f in functions.all() {
+        all.push(function(alloc, structs, functions, f)?)?;
+    }
+    Ok(all)
+}
+
+/// The number of the function `main`.
+fn main_number(alloc: Global, functions: &Functions) -> Result<usize, AllocError>
+    ensures { IfOk result (λ n. n ≡ resolution.function_number functions.now (codes "main")) }
+{
+    let name = Text::from_slice(alloc, b"main")?;
+    Ok(functions.place(&name).unwrap_or(0))
+}
+
+/// A typed program with its names and types resolved.
+pub fn resolve(alloc: Global, t: &Typed) -> Result<Resolved, AllocError>
+    ensures functions { IfOk result (λ r. map erased.function r.functions ≡ resolution.program t.now) }
+    ensures main { IfOk result (λ r. r.main ≡ resolution.main_number t.now) }
+    ensures variables { IfOk result (λ r. map (λ f. f.variables) r.functions ≡ map (λ f. length (resolution.variables f)) (items.functions t.now)) }
+{
+    let structs = Layouts::of(alloc, t)?;
+    let functions = Functions::of(alloc, t.program().items.as_slice())?;
+    let main = main_number(alloc, &functions)?;
+    let functions = all_functions(alloc, &structs, &functions)?;
+    Ok(Resolved { functions, main })
+}
