@@ -3,6 +3,8 @@
 #![tactic(auto)]
 
 #[cfg(test)]
+mod arithmetic;
+#[cfg(test)]
 mod base;
 #[cfg(test)]
 mod driver;
@@ -14,6 +16,8 @@ mod lex;
 mod machine;
 #[cfg(test)]
 mod print;
+#[cfg(test)]
+mod resolve;
 #[cfg(test)]
 mod small;
 #[cfg(test)]

@@ -194,7 +194,7 @@ const SIZES: &[Size] = &[
 ];
 
 /// The typed program of a source, or its refusal; nothing where the source is no program.
-fn judged(alloc: Global, source: &str) -> Option<Result<Typed, Fail<TypeRefusal>>> {
+pub(crate) fn judged(alloc: Global, source: &str) -> Option<Result<Typed, Fail<TypeRefusal>>> {
     let tokens = tokens_of(alloc, source.as_bytes())?;
     let program = read(alloc, &tokens).ok()?;
     Some(check(alloc, program))
