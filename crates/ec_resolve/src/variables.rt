@@ -102,23 +102,19 @@ impl<'a> Variables<'a> {
         ensures { OnOk result (self.new ≡ self.old ++ declared_by s.now) }
     {
         match &s.kind {
-            StmtKind::Empty
-            | StmtKind::Set(_)
-            | StmtKind::Eval(_)
-            | StmtKind::WriteTo(_, _)
-            | StmtKind::AddTo(_, _)
-            | StmtKind::Print(_, _)
-            | StmtKind::Return(_) => Ok(()),
             StmtKind::Body(b) => self.body(b),
             StmtKind::Par(all) => self.statements(all.as_slice()),
-            StmtKind::If(_, then, None) => self.statement(then.get()),
-            StmtKind::If(_, then, Some(otherwise)) => {
+            StmtKind::If(_, then, other) => {
                 self.statement(then.get())?;
-                self.statement(otherwise.get())
+                match other {
+                    None => Ok(()),
+                    Some(other) => self.statement(other.get()),
+                }
             }
             StmtKind::While(_, inside) => self.statement(inside.get()),
             StmtKind::For(_, _, _, inside) => self.statement(inside.get()),
             StmtKind::Forall(_, _, _, inside) => self.statement(inside.get()),
+            _ => Ok(()),
         }
     }
 
