@@ -8,7 +8,7 @@ use Rattle.ec_meaning.specs.Opened.{Opened, opened, value_ticks}
 use Rattle.ec_meaning.specs.Machine.{Waiting, ticked, Turns}
 use Rattle.ec_meaning.proofs.Expressions.{value_opens, place_opens, and_opens, or_opens, arguments_open}
 use Rattle.ec_meaning.proofs.Calls.{call_opens}
-use Rattle.ec_meaning.proofs.Statements.{assignment_opens, declarations_open, statement_opens, statements_open, branches_open, decision_opens, repetition_opens}
+use Rattle.ec_meaning.proofs.OpenedStatements.{assignment_opens, declarations_open, statement_opens, statements_open, branches_open, decision_opens, repetition_opens}
 use Rattle.ec_meaning.proofs.Loops.{turn_opens}
 use Rattle.ec_meaning.proofs.Steps.{turns_to}
 

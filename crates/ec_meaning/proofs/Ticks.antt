@@ -9,7 +9,7 @@ use Rattle.ec_meaning.specs.Acts.{top, without, replaced, last_values, operands,
 use Rattle.ec_meaning.specs.Opened.{Opened, opened, spends, value_ticks}
 use Rattle.ec_meaning.specs.Machine.{Waiting, resumed, comes_to, shown}
 use Rattle.ec_meaning.proofs.Expressions.{value_opens, place_opens}
-use Rattle.ec_meaning.proofs.Statements.{statement_opens}
+use Rattle.ec_meaning.proofs.OpenedStatements.{statement_opens}
 use Rattle.ec_meaning.proofs.Steps.{resumed-going}
 
 false_not_true : false ≡ true → ⊥

@@ -6,3 +6,15 @@ pub mod Opened
 pub mod Machine
 -- what each step keeps
 pub mod Laws
+-- the state of the code as that of the definitions
+pub mod Seen
+-- the order of its blocks, and the memory that shows them
+pub mod Order
+pub mod Means
+pub mod Shown
+-- what the functions inside the crate promise each other: what they make of a hand and of works
+pub mod Handled
+-- what accesses reach among the blocks
+pub mod Reached
+-- what a work leaves as it is
+pub mod Kept
