@@ -9,8 +9,8 @@ ghost use Rattle.ec_meaning.specs.Laws.{
   StartMeans,
 };
 
-/// With every number of ticks the start comes to what the program means, and each step comes to what the state before it
-/// came to: opening a work, calling a function, beginning a branch, coming to the end of an activation, and returning.
+/// With every number of ticks the start comes to what the program means, and these steps come to what the state before came
+/// to: opening a work, calling a function, beginning a branch, coming to the end of an activation, and returning.
 pub fn steps_keep_meanings()
     ensures opening { OpeningKeeps }
     ensures calling { CallingKeeps }

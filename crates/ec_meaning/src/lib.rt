@@ -1,5 +1,5 @@
 //! What typed programs mean, step by step, as a machine takes it that keeps what is still to do on a list and the activations
-//! that wait on another, so that it needs no recursion. `specs/Laws.antt` says what each step keeps. The private modules are
+//! that wait on another, so that it needs no recursion. `specs/Laws.antt` says what its steps keep. The private modules are
 //! the parts of an evaluator that takes these steps; no public call joins them yet.
 #![tactic(auto)]
 
