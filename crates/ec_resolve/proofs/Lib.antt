@@ -3,3 +3,4 @@ pub mod Named
 pub mod Cells
 pub mod Terms
 pub mod Lists
+pub mod Within

@@ -8,7 +8,7 @@ use Rattle.ec_types.specs.Meaning.Resolution.{Resolved}
 
 abbrev pub form : Form → resolution.Form
 form (written.Plain e) = resolution.Plain (expression e)
-form (written.Access p) = resolution.Access (place p)
+form (written.Access pointer p) = resolution.Access pointer (place p)
 
 abbrev pub operand : Operand → Resolved
 operand o = record { type = o.ty; form = form o.form }

@@ -8,4 +8,4 @@ abbrev pub scope : Scope → resolution.Scope
 scope s = record { structs = s.structs.now; functions = s.functions.now; variables = s.variables }
 
 abbrev pub found : Found → layout.Found
-found f = record { first = f.extent.first; field = f.field.now }
+found f = record { number = f.extent.number; first = f.extent.first; field = f.field.now }

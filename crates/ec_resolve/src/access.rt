@@ -6,13 +6,13 @@ ghost use Rattle.ec_resolve.specs.Erased as erased;
 ghost use Rattle.ec_resolve.specs.Operands.{operand};
 ghost use Rattle.ec_resolve.specs.Seen.{scope};
 
-use crate::operand::{Operand, accessed, valued};
+use crate::operand::{Form, Operand, valued};
 use crate::scope::{Member, Scope};
 use crate::term::{Allocation, Place, Term};
 use ec_base::{Boxed, Span, Text};
 use ec_syntax::Ty;
 use ec_types::{ExprType, number, pointee, pointer_to, written_type};
-use std::alloc::{AllocError, Global};
+use std::alloc::AllocError;
 
 /// What stands behind a pointer.
 fn behind(ty: ExprType) -> ExprType
@@ -24,15 +24,25 @@ fn behind(ty: ExprType) -> ExprType
     }
 }
 
-/// An element of an array field.
-fn item(alloc: Global, at: Span, array: Operand, index: Boxed<Term>) -> Result<Operand, AllocError>
-    ensures { IfOk result (λ o. operand o ≡ resolution.item at (operand array) (erased.expression index)) }
-{
-    let array = array.form.into_place(alloc)?;
-    accessed(alloc, number(), Place::Item(at, array, index))
-}
-
 impl Scope<'_> {
+    fn accessed(&self, ty: ExprType, place: Place) -> Result<Operand, AllocError>
+        ensures { IfOk result (λ o. operand o ≡ resolution.accessed (scope self.now).structs ty (erased.place place)) }
+    {
+        let pointer = self.pointer_of(&ty);
+        Ok(Operand {
+            ty,
+            form: Form::Access(pointer, Boxed::new(self.alloc, place)?),
+        })
+    }
+
+    /// An element of an array field.
+    fn item(&self, at: Span, array: Operand, index: Boxed<Term>) -> Result<Operand, AllocError>
+        ensures { IfOk result (λ o. operand o ≡ resolution.item (scope self.now).structs at (operand array) (erased.expression index)) }
+    {
+        let array = array.form.into_place(self.alloc)?;
+        self.accessed(number(), Place::Item(at, array, index))
+    }
+
     /// `*e`, and `e[i]` where e is a pointer.
     pub(crate) fn element_at(
         &self,
@@ -46,7 +56,7 @@ impl Scope<'_> {
         let ty = behind(ty);
         let size = self.size_of(&ty);
         let pointer = form.into_value(self.alloc)?;
-        accessed(self.alloc, ty, Place::Element(at, size, pointer, index))
+        self.accessed(ty, Place::Element(at, size, pointer, index))
     }
 
     /// `e[i]`
@@ -59,7 +69,7 @@ impl Scope<'_> {
         ensures { IfOk result (λ o. operand o ≡ resolution.indexed (scope self.now).structs at (operand e) (erased.expression index)) }
     {
         if e.ty.is_array() {
-            item(self.alloc, at, e, index)
+            self.item(at, e, index)
         } else {
             self.element_at(at, e, Some(index))
         }
@@ -79,7 +89,7 @@ impl Scope<'_> {
         let size = self.size_of(&behind(ty));
         let pointer = form.into_value(self.alloc)?;
         let Member { extent, ty } = member;
-        accessed(self.alloc, ty, Place::Behind(at, size, extent, pointer))
+        self.accessed(ty, Place::Behind(at, size, extent, pointer))
     }
 
     /// `e.f`
@@ -90,7 +100,7 @@ impl Scope<'_> {
         let member = self.member(0, &ty, name)?;
         let element = form.into_place(self.alloc)?;
         let Member { extent, ty } = member;
-        accessed(self.alloc, ty, Place::Field(at, extent, element))
+        self.accessed(ty, Place::Field(at, extent, element))
     }
 
     /// A `malloc` of so many elements.
@@ -102,16 +112,16 @@ impl Scope<'_> {
     ) -> Result<Operand, AllocError>
         ensures { IfOk result (λ o. operand o ≡ resolution.allocated (scope self.now).structs at (types.value_type element.now) (erased.optional count)) }
     {
-        let ty = ExprType::Value(pointer_to(written_type(self.alloc, element)?));
         let pointers = self.pointers(element)?;
-        valued(
-            self.alloc,
-            ty,
-            Term::New(Allocation {
-                at,
-                pointers,
-                count,
-            }),
-        )
+        let written = written_type(self.alloc, element)?;
+        let shape = self.shape_of(&written.base, written.stars);
+        let new = Allocation {
+            at,
+            shape,
+            pointers,
+            count,
+        };
+        let ty = ExprType::Value(pointer_to(written));
+        valued(self.alloc, ty, Term::New(new))
     }
 }

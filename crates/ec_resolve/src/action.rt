@@ -5,7 +5,8 @@ use ec_base::{Boxed, List, Span, Text};
 /// A variable or place is set, or an element is copied.
 #[derive(Drop)]
 pub enum Assignment {
-    SetVar(usize, Term),
+    /// The variable of this number, which stands there.
+    SetVar(Span, usize, Term),
     Store(Place, Term),
     /// Target, then source.
     Copy(Place, Place),
@@ -27,11 +28,11 @@ pub enum Action {
     Skip,
     Block(Block),
     /// A parallel sequence of branches.
-    Par(List<Action>),
+    Par(Span, List<Action>),
     If(Boxed<Term>, Boxed<Action>, Option<Boxed<Action>>),
     While(Boxed<Term>, Boxed<Action>),
-    For(Boxed<ForHeader>, Boxed<Action>),
-    Forall(Boxed<ForallHeader>, Boxed<Action>),
+    For(Span, Boxed<ForHeader>, Boxed<Action>),
+    Forall(Span, Boxed<ForallHeader>, Boxed<Action>),
     Set(Boxed<Assignment>),
     Eval(Boxed<Invocation>),
     WriteTo(Span, Boxed<Term>, Boxed<Term>),
@@ -64,13 +65,24 @@ pub struct ForallHeader {
     pub last: Boxed<Assignment>,
 }
 
-/// A function: the numbers of its parameters, how many variables it has, these among them, whether it gives a pointer, and
-/// its body.
+/// A variable or parameter: where it is declared, whether it is shared or local, and the shape behind it where it is a pointer.
+#[derive(Clone, Copy)]
+pub struct Variable {
+    pub at: Span,
+    pub shared: bool,
+    pub local: bool,
+    pub pointer: Option<u32>,
+}
+
+/// A function: the numbers of its parameters, which are among its variables, whether it gives nothing or a pointer, the shape
+/// behind that, and its body.
 #[derive(Drop)]
 pub struct Function {
     pub params: List<usize>,
-    pub variables: usize,
+    pub variables: List<Variable>,
+    pub void: bool,
     pub pointer: bool,
+    pub shape: u32,
     pub body: Block,
 }
 

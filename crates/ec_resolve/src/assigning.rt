@@ -9,7 +9,7 @@ ghost use Rattle.ec_resolve.specs.Seen.{scope};
 use crate::action::{Assignment, Declared};
 use crate::operand::{Form, Operand};
 use crate::scope::Scope;
-use ec_base::{Boxed, List};
+use ec_base::{Boxed, List, Span};
 use ec_syntax::{Assign, Decl, Mode};
 use ec_types::{ExprType, is_written_pointer, struct_behind};
 use std::alloc::{AllocError, Global};
@@ -21,11 +21,16 @@ fn is_struct(ty: &ExprType) -> bool
     struct_behind(0, ty).is_some()
 }
 
-fn set_variable(alloc: Global, x: usize, source: Form) -> Result<Boxed<Assignment>, AllocError>
-    ensures { IfOk result (λ a. erased.assignment a ≡ tree.SetVar x (resolution.value_of (form source))) }
+fn set_variable(
+    alloc: Global,
+    at: Span,
+    x: usize,
+    source: Form,
+) -> Result<Boxed<Assignment>, AllocError>
+    ensures { IfOk result (λ a. erased.assignment a ≡ tree.SetVar at x (resolution.value_of (form source))) }
 {
     let value = source.into_value(alloc)?;
-    Boxed::new(alloc, Assignment::SetVar(x, value.into_inner()))
+    Boxed::new(alloc, Assignment::SetVar(at, x, value.into_inner()))
 }
 
 fn copied(alloc: Global, target: Form, source: Form) -> Result<Boxed<Assignment>, AllocError>
@@ -55,7 +60,7 @@ fn assigned(alloc: Global, left: Operand, right: Operand) -> Result<Boxed<Assign
     ensures { IfOk result (λ a. erased.assignment a ≡ resolution.assigned (operand left) (operand right)) }
 {
     match left.form.variable() {
-        Some(x) => set_variable(alloc, x, right.form),
+        Some((at, x)) => set_variable(alloc, at, x, right.form),
         None => {
             if is_struct(&left.ty) {
                 copied(alloc, left.form, right.form)

@@ -8,17 +8,17 @@ ghost use Rattle.ec_resolve.specs.Seen.{scope};
 use crate::operand::{Operand, numbered, valued};
 use crate::scope::Scope;
 use crate::term::{Invocation, Placing, Term};
-use ec_base::{Boxed, List, Text};
+use ec_base::{Boxed, List, Span, Text};
 use ec_syntax::{Call, Expr, ExprKind, Placement};
 use ec_types::ExprType;
 use std::alloc::AllocError;
 
 impl Scope<'_> {
     /// A variable, as an expression of this type.
-    fn named(&self, ty: ExprType, name: &Text) -> Result<Operand, AllocError>
-        ensures { IfOk result (λ o. operand o ≡ resolution.named (scope self.now) ty name.now) }
+    fn named(&self, at: Span, ty: ExprType, name: &Text) -> Result<Operand, AllocError>
+        ensures { IfOk result (λ o. operand o ≡ resolution.named (scope self.now) at ty name.now) }
     {
-        valued(self.alloc, ty, Term::Var(self.variable_number(name)))
+        valued(self.alloc, ty, Term::Var(at, self.variable_number(name)))
     }
 
     #[cycle(expression)]
@@ -27,13 +27,13 @@ impl Scope<'_> {
     {
         let at = e.at;
         match &e.kind {
-            ExprKind::Number(n) => numbered(self.alloc, Term::Number(*n)),
-            ExprKind::Null => valued(self.alloc, ExprType::Null, Term::Nil),
-            ExprKind::Var(name) => self.named(self.variable_type(name)?, name),
+            ExprKind::Number(n) => numbered(self.alloc, Term::Number(at, *n)),
+            ExprKind::Null => valued(self.alloc, ExprType::Null, Term::Nil(at)),
+            ExprKind::Var(name) => self.named(at, self.variable_type(name)?, name),
             ExprKind::Paren(inside) => self.expression(inside.get()),
             ExprKind::Unary(operator, a) => {
                 let a = self.value(a.get())?;
-                numbered(self.alloc, Term::Unary(*operator, a))
+                numbered(self.alloc, Term::Unary(at, *operator, a))
             }
             ExprKind::Binary(operator, a, b) => {
                 let a = self.value(a.get())?;
@@ -43,12 +43,12 @@ impl Scope<'_> {
             ExprKind::And(a, b) => {
                 let a = self.value(a.get())?;
                 let b = self.value(b.get())?;
-                numbered(self.alloc, Term::And(a, b))
+                numbered(self.alloc, Term::And(at, a, b))
             }
             ExprKind::Or(a, b) => {
                 let a = self.value(a.get())?;
                 let b = self.value(b.get())?;
-                numbered(self.alloc, Term::Or(a, b))
+                numbered(self.alloc, Term::Or(at, a, b))
             }
             ExprKind::Deref(a) => self.element_at(at, self.expression(a.get())?, None),
             ExprKind::Index(a, i) => {
@@ -67,7 +67,7 @@ impl Scope<'_> {
                 let a = self.value(a.get())?;
                 numbered(self.alloc, Term::ValueOf(at, a))
             }
-            ExprKind::Address(name) => self.named(ExprType::Shared, name),
+            ExprKind::Address(name) => self.named(at, ExprType::Shared, name),
         }
     }
 
@@ -102,6 +102,7 @@ impl Scope<'_> {
         Boxed::new(
             self.alloc,
             Invocation {
+                at: call.at,
                 function,
                 args,
                 placing,

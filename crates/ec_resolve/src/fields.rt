@@ -42,10 +42,15 @@ pub(crate) fn found_in<'a>(s: &Struct<'a>, name: &Text) -> Option<Found<'a>>
     let at = s.place(name)?;
     let fields = s.def().fields.as_slice();
     let field = fields.get(at)?;
+    let number = at as u32;
     let first = cells(&fields[..at]);
     let length = cells_of(field) as u32;
     Some(Found {
-        extent: Extent { first, length },
+        extent: Extent {
+            number,
+            first,
+            length,
+        },
         field,
     })
 }

@@ -10,12 +10,13 @@ mod layouts;
 mod operand;
 mod resolving;
 mod scope;
+mod shapes;
 mod statement;
 mod term;
 mod variables;
 
 pub use action::{
-    Action, Assignment, Block, Declared, ForHeader, ForallHeader, Function, Resolved,
+    Action, Assignment, Block, Declared, ForHeader, ForallHeader, Function, Resolved, Variable,
 };
 pub use resolving::resolve;
 pub use term::{Allocation, Extent, Invocation, Place, Placing, Term};

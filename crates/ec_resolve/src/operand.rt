@@ -10,11 +10,11 @@ use ec_base::{Boxed, Span};
 use ec_types::{ExprType, number};
 use std::alloc::{AllocError, Global};
 
-/// What an expression is: an access, or any other.
+/// What an expression is: an access, which may give a pointer to elements of this shape, or any other.
 #[derive(Drop)]
 pub(crate) enum Form {
     Plain(Boxed<Term>),
-    Access(Boxed<Place>),
+    Access(Option<u32>, Boxed<Place>),
 }
 
 /// An expression, and its type.
@@ -41,22 +41,15 @@ pub(crate) fn numbered(alloc: Global, term: Term) -> Result<Operand, AllocError>
     valued(alloc, number(), term)
 }
 
-pub(crate) fn accessed(alloc: Global, ty: ExprType, place: Place) -> Result<Operand, AllocError>
-    ensures { IfOk result (λ o. operand o ≡ resolution.accessed ty (erased.place place)) }
-{
-    Ok(Operand {
-        ty,
-        form: Form::Access(Boxed::new(alloc, place)?),
-    })
-}
-
 impl Form {
     pub(crate) fn into_value(self, alloc: Global) -> Result<Boxed<Term>, AllocError>
         ensures { IfOk result (λ t. erased.expression t ≡ resolution.value_of (form self)) }
     {
         match self {
             Form::Plain(term) => Ok(term),
-            Form::Access(place) => Boxed::new(alloc, Term::Load(place.into_inner())),
+            Form::Access(pointer, place) => {
+                Boxed::new(alloc, Term::Load(pointer, place.into_inner()))
+            }
         }
     }
 
@@ -71,20 +64,20 @@ impl Form {
                     Place::Element(Span { from: 0, to: 0 }, 1, term, None),
                 )
             }
-            Form::Access(place) => Ok(place),
+            Form::Access(_, place) => Ok(place),
         }
     }
 
-    /// The variable that this is.
-    pub(crate) fn variable(&self) -> Option<usize>
+    /// The variable that this is, and where it stands.
+    pub(crate) fn variable(&self) -> Option<(Span, usize)>
         ensures { result ≡ resolution.variable_in (form self.now) }
     {
         match self {
             Form::Plain(term) => match term.get() {
-                Term::Var(x) => Some(*x),
+                Term::Var(at, x) => Some((*at, *x)),
                 _ => None,
             },
-            Form::Access(_) => None,
+            Form::Access(_, _) => None,
         }
     }
 }

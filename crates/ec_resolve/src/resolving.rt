@@ -1,16 +1,15 @@
 //! Resolving programs.
-ghost use Rattle.std.specs.Prelude.{◌≡◌, length, map, codes, IfOk};
-ghost use Rattle.ec_calls.specs.Items as items;
+ghost use Rattle.std.specs.Prelude.{◌≡◌, map, codes, IfOk};
 ghost use Rattle.ec_types.specs.Meaning.Resolution as resolution;
 ghost use Rattle.ec_resolve.specs.Erased as erased;
 ghost use Rattle.ec_resolve.specs.Seen.{scope};
 
-use crate::action::{Function, Resolved};
+use crate::action::{Function, Resolved, Variable};
 use crate::layouts::Layouts;
 use crate::scope::Scope;
 use ec_base::{List, Text};
-use ec_syntax::{Decl, Func};
-use ec_types::{Functions, Typed, is_written_pointer};
+use ec_syntax::{Decl, Func, Mode};
+use ec_types::{Functions, Typed, is_written_pointer, is_written_void};
 use std::alloc::{AllocError, Global};
 
 impl Scope<'_> {
@@ -25,16 +24,57 @@ impl Scope<'_> {
         Ok(numbers)
     }
 
+    /// A shared variable points at its one cell, an int.
+    fn variable(&self, d: &Decl) -> Result<Variable, AllocError>
+        ensures { IfOk result (λ v. erased.variable v ≡ resolution.variable (scope self.now).structs d.now) }
+    {
+        let at = d.name.at;
+        match d.mode {
+            Mode::Plain => Ok(Variable {
+                at,
+                shared: false,
+                local: false,
+                pointer: self.written_pointer(&d.ty)?,
+            }),
+            Mode::Local => Ok(Variable {
+                at,
+                shared: false,
+                local: true,
+                pointer: self.written_pointer(&d.ty)?,
+            }),
+            Mode::Shared => Ok(Variable {
+                at,
+                shared: true,
+                local: false,
+                pointer: Some(0),
+            }),
+        }
+    }
+
+    /// The parameters and variables of the function.
+    fn declared(&self) -> Result<List<Variable>, AllocError>
+        ensures { IfOk result (λ l. map erased.variable l ≡ map (resolution.variable (scope self.now).structs) (scope self.now).variables) }
+    {
+        let mut declared = List::new(self.alloc);
+        for d in self.variables.all() {
+            declared.push(self.variable(d)?)?;
+        }
+        Ok(declared)
+    }
+
     fn function(&self, f: &Func) -> Result<Function, AllocError>
-        ensures function { IfOk result (λ r. erased.function r ≡ resolution.function_in (scope self.now) f.now) }
-        ensures variables { IfOk result (λ r. r.variables ≡ length (scope self.now).variables) }
+        ensures { IfOk result (λ r. erased.function r ≡ resolution.function_in (scope self.now) f.now) }
     {
         let params = self.numbers(f.params.as_slice())?;
+        let variables = self.declared()?;
+        let pointer = self.written_pointer(&f.result)?;
         let body = self.body(&f.body)?;
         Ok(Function {
             params,
-            variables: self.variables.len(),
+            variables,
+            void: is_written_void(&f.result),
             pointer: is_written_pointer(&f.result),
+            shape: pointer.unwrap_or(0),
             body,
         })
     }
@@ -46,8 +86,7 @@ fn function(
     functions: &Functions,
     f: &Func,
 ) -> Result<Function, AllocError>
-    ensures function { IfOk result (λ r. erased.function r ≡ resolution.function structs.now functions.now f.now) }
-    ensures variables { IfOk result (λ r. r.variables ≡ length (resolution.variables f.now)) }
+    ensures { IfOk result (λ r. erased.function r ≡ resolution.function structs.now functions.now f.now) }
 {
     let scope = Scope::of(alloc, structs, functions, f)?;
     scope.function(f)
@@ -58,8 +97,7 @@ fn all_functions(
     structs: &Layouts,
     functions: &Functions,
 ) -> Result<List<Function>, AllocError>
-    ensures functions { IfOk result (λ l. map erased.function l ≡ map (resolution.function structs.now functions.now) functions.now) }
-    ensures variables { IfOk result (λ l. map (λ r. r.variables) l ≡ map (λ f. length (resolution.variables f)) functions.now) }
+    ensures { IfOk result (λ l. map erased.function l ≡ map (resolution.function structs.now functions.now) functions.now) }
 {
     let mut all = List::new(alloc);
     for f in functions.all() {
@@ -80,7 +118,6 @@ fn main_number(alloc: Global, functions: &Functions) -> Result<usize, AllocError
 pub fn resolve(alloc: Global, t: &Typed) -> Result<Resolved, AllocError>
     ensures functions { IfOk result (λ r. map erased.function r.functions ≡ resolution.program t.now) }
     ensures main { IfOk result (λ r. r.main ≡ resolution.main_number t.now) }
-    ensures variables { IfOk result (λ r. map (λ f. f.variables) r.functions ≡ map (λ f. length (resolution.variables f)) (items.functions t.now)) }
 {
     let structs = Layouts::of(alloc, t)?;
     let functions = Functions::of(alloc, t.program().items.as_slice())?;

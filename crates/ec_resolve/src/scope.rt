@@ -140,13 +140,13 @@ impl<'a> Scope<'a> {
 
     /// A field of the struct that stands behind so many pointers.
     pub(crate) fn member(&self, stars: u64, t: &ExprType, name: &Text) -> Result<Member, AllocError>
-        ensures first { IfOk result (λ m. m.extent.first ≡ resolution.first_at (resolution.field_in (scope self.now).structs stars t.now name.now)) }
-        ensures length { IfOk result (λ m. m.extent.length ≡ resolution.length_at (resolution.field_in (scope self.now).structs stars t.now name.now)) }
+        ensures at { IfOk result (λ m. erased.field m.extent ≡ resolution.field_at (resolution.field_in (scope self.now).structs stars t.now name.now)) }
         ensures ty { IfOk result (λ m. m.ty ≡ resolution.type_at (resolution.field_in (scope self.now).structs stars t.now name.now)) }
     {
         match self.field_in(stars, t, name) {
             None => Ok(Member {
                 extent: Extent {
+                    number: 0,
                     first: 0,
                     length: 1,
                 },

@@ -62,7 +62,7 @@ impl Scope<'_> {
             StmtKind::Body(b) => Boxed::new(self.alloc, Action::Block(self.body(b)?)),
             StmtKind::Par(branches) => {
                 let branches = self.statements(branches.as_slice())?;
-                Boxed::new(self.alloc, Action::Par(branches))
+                Boxed::new(self.alloc, Action::Par(at, branches))
             }
             StmtKind::If(test, first, second) => {
                 let test = self.value(test.get())?;
@@ -78,12 +78,12 @@ impl Scope<'_> {
             StmtKind::For(first, test, last, inner) => {
                 let header = self.for_header(first, test, last)?;
                 let inner = self.statement(inner.get())?;
-                Boxed::new(self.alloc, Action::For(header, inner))
+                Boxed::new(self.alloc, Action::For(at, header, inner))
             }
             StmtKind::Forall(first, test, last, inner) => {
                 let header = self.forall_header(first.get(), test.get(), last.get())?;
                 let inner = self.statement(inner.get())?;
-                Boxed::new(self.alloc, Action::Forall(header, inner))
+                Boxed::new(self.alloc, Action::Forall(at, header, inner))
             }
             StmtKind::Set(a) => Boxed::new(self.alloc, Action::Set(self.assignment(a.get())?)),
             StmtKind::Eval(call) => Boxed::new(self.alloc, Action::Eval(self.call(call.get())?)),

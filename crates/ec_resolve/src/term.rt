@@ -1,36 +1,40 @@
 //! Expressions whose names and types are resolved. What stood in parentheses stands for itself.
 use ec_base::{BinOp, Boxed, List, Span, UnOp};
 
-/// An expression.
+/// An expression. A shape is the number of an element type: 0 an int, 1 a pointer, and from 2 on the structs in order.
 #[cycle(term)]
 #[derive(Drop)]
 pub enum Term {
-    Number(i64),
-    Nil,
+    Number(Span, i64),
+    Nil(Span),
     /// The variable of this number, or `&` and a shared one.
-    Var(usize),
-    Unary(UnOp, Boxed<Term>),
+    Var(Span, usize),
+    Unary(Span, UnOp, Boxed<Term>),
     Binary(Span, BinOp, Boxed<Term>, Boxed<Term>),
-    And(Boxed<Term>, Boxed<Term>),
-    Or(Boxed<Term>, Boxed<Term>),
-    Load(Place),
+    And(Span, Boxed<Term>, Boxed<Term>),
+    Or(Span, Boxed<Term>, Boxed<Term>),
+    /// What is loaded may be a pointer to elements of this shape.
+    Load(Option<u32>, Place),
     Call(Invocation),
     New(Allocation),
     ValueOf(Span, Boxed<Term>),
 }
 
-/// A `malloc`: for each cell of an element whether it is a pointer, and how many elements; one, where that is missing.
+/// A `malloc`: the shape of an element, for each of its cells whether it is a pointer, and how many elements; one, where that
+/// is missing.
 #[cycle(term)]
 #[derive(Drop)]
 pub struct Allocation {
     pub at: Span,
+    pub shape: u32,
     pub pointers: List<bool>,
     pub count: Option<Boxed<Term>>,
 }
 
-/// The first cell of a field, and the length of an array field, otherwise 1.
+/// The number of a field in its struct, its first cell, and the length of an array field, otherwise 1.
 #[derive(Clone, Copy)]
 pub struct Extent {
+    pub number: u32,
     pub first: u32,
     pub length: u32,
 }
@@ -53,6 +57,7 @@ pub enum Place {
 #[cycle(term)]
 #[derive(Drop)]
 pub struct Invocation {
+    pub at: Span,
     pub function: usize,
     pub args: List<Term>,
     pub placing: Placing,

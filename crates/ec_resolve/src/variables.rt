@@ -1,5 +1,5 @@
 //! The variables of a function, by name.
-ghost use Rattle.std.specs.Prelude.{◌≡◌, ◌++◌, [], ◌∷◌, length, map, option_copied, IfOk, OnOk};
+ghost use Rattle.std.specs.Prelude.{◌≡◌, ◌++◌, [], ◌∷◌, map, option_copied, IfOk, OnOk};
 ghost use Rattle.ec_calls.specs.Effects.{joined};
 ghost use Rattle.ec_resolve.specs.Declares.{declared_by};
 ghost use Rattle.ec_types.specs.Meaning.Resolution as resolution;
@@ -54,11 +54,10 @@ impl<'a> Variables<'a> {
         Ok(variables)
     }
 
-    /// How many they are.
-    pub(crate) fn len(&self) -> usize
-        ensures { result ≡ length self.now }
+    pub(crate) fn all(&self) -> &[&'a Decl]
+        ensures { map (λ d. d.now) result.now ≡ self.now }
     {
-        self.all.len()
+        self.all.as_slice()
     }
 
     fn push(&mut self, d: &'a Decl) -> Result<(), AllocError>

@@ -1,5 +1,6 @@
 -- Where names stand in a list that grows, and what is found there.
-use Rattle.std.proofs.Common.{◌≡◌, refl, sym, ◌∙◌, ap, ℕ, suc, Bool, true, false, List, [], ◌∷◌, ◌++◌, length, map, find, slice_get, Option, Some, None, option_map, if◌then◌else◌, is_some, true≢false}
+use Rattle.std.proofs.Common.{◌≡◌, refl, sym, ◌∙◌, ap, ℕ, suc, ◌<◌, ◌≤◌, Bool, true, false, List, [], ◌∷◌, ◌++◌, length, map, find, slice_get, Option, Some, None, option_map, option_copied, MatchOption, HoldsAt, if◌then◌else◌, is_some, true≢false}
+use Rattle.std.proofs.lemmas.Option.{slice_get-map}
 use Rattle.std.proofs.lemmas.Slice.Eq.{bytes_eq-Decides}
 use Rattle.std.proofs.lemmas.Map.Text.{hash_map_updates_str}
 use Rattle.std.specs.Borrow.{Bor}
@@ -8,6 +9,7 @@ use Rattle.ec_base.specs.declared.text.Text.{Text}
 use Rattle.ec_syntax.specs.Grammar.Words.{same}
 use Rattle.indexmap.specs.IndexMap.{IndexMap, Updates, get_by}
 use Rattle.ec_types.specs.Places.{place, HasPlaces}
+use Rattle.ec_types.proofs.ArgumentLists.{found}
 
 pub same_is : (w v : Text) → same w v ≡ true → w ≡ v
 same_is w v h = (bytes_eq-Decides w v).0 h
@@ -109,3 +111,15 @@ some_named text xs all names name o k are is at some =
     ∙ sym
     (find_placed text all name
     ∙ ap (option_and_then (slice_get all)) (ap (λ l. place (map text l) name) (sym is) ∙ ap (λ l. place l name) (sym are) ∙ sym at ∙ some))
+
+-- the same in a table that holds references
+pub some_lent :
+    {A : Type 0} (text : A → Text) (items slice : List (Bor A)) (all : List A) (names : List Text) (name : Text)
+    (o : Option ℕ) (k : ℕ) (got : Option (Bor (Bor A))) (result : Option (Bor A)) →
+    names ≡ map text (map (λ x. x.now) items) → map (λ x. x.now) items ≡ all → o ≡ place names name → o ≡ Some k →
+    slice ≡ items → MatchOption got (length slice ≤ k) (λ x. (k < length slice) × HoldsAt (λ y. x.now ≡ y) slice k) →
+    result ≡ option_copied got → option_copied result ≡ find (λ x. same (text x) name) all
+some_lent text items slice all names name o k got result is are at some whole look copied =
+    ap option_copied (copied ∙ found slice k got look ∙ ap (λ l. slice_get l k) whole)
+    ∙ sym (slice_get-map (λ x. x.now) items k)
+    ∙ some_named text (map (λ x. x.now) items) all names name o k is are at some

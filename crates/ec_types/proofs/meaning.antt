@@ -16,3 +16,4 @@ pub mod Room
 -- small programs by computation, as trees and as they are written
 pub mod Rows
 pub mod Sources
+pub mod Notes

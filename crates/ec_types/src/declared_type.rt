@@ -5,6 +5,16 @@ ghost use Rattle.ec_types.specs.Types as types;
 
 use ec_syntax::{Base, Decl, Mode, Ty};
 
+/// Whether the written type is `void`.
+pub fn is_written_void(ty: &Ty) -> bool
+    ensures { result ≡ types.is_void (types.value_type ty.now) }
+{
+    match ty.base {
+        Base::Void => ty.stars == 0,
+        _ => false,
+    }
+}
+
 pub(crate) fn is_written_int(ty: &Ty) -> bool
     ensures { result ≡ types.is_int (types.value_type ty.now) }
 {

@@ -8,7 +8,7 @@ ghost use Rattle.ec_types.specs.Programs as programs;
 ghost use Rattle.ec_types.specs.Seen.{context, start_by, function_by};
 ghost use Rattle.ec_types.specs.Types as types;
 
-use crate::declared_type::{is_written_int, is_written_pointer};
+use crate::declared_type::{is_written_int, is_written_pointer, is_written_void};
 use crate::distinct::distinct;
 use crate::items::{Functions, Structs};
 use crate::judge::Judge;
@@ -18,17 +18,8 @@ use crate::names::known;
 use crate::value_type::{ValueType, written_type};
 use ec_base::Reason;
 use ec_calls::FirstPrints;
-use ec_syntax::{Base, Decl, Func, Ty};
+use ec_syntax::{Decl, Func, Ty};
 use std::alloc::{AllocError, Global};
-
-fn is_written_void(ty: &Ty) -> bool
-    ensures { result ≡ types.is_void (types.value_type ty.now) }
-{
-    match ty.base {
-        Base::Void => ty.stars == 0,
-        _ => false,
-    }
-}
 
 /// Whether a function may give a value of this type, or none.
 fn is_result(ty: &Ty) -> bool

@@ -188,6 +188,13 @@ impl<'a> Structs<'a> {
         self.all.as_slice()
     }
 
+    /// Where the first struct of this name stands.
+    pub fn place(&self, name: &Text) -> Option<usize>
+        ensures { result ≡ place (map (λ s. s.name.text) self.now) name.now }
+    {
+        self.names.place(name)
+    }
+
     /// The first struct of this name.
     pub fn named(&self, name: &Text) -> Option<&Struct<'a>>
         ensures { option_copied result ≡ declared.struct_named self.now name.now }

@@ -31,7 +31,7 @@ mod typed;
 mod value_type;
 
 pub use checking::check;
-pub use declared_type::is_written_pointer;
+pub use declared_type::{is_written_pointer, is_written_void};
 pub use items::{Functions, Struct, Structs};
 pub use laws::{meanings_are_settled, programs_are_refused_once};
 pub use operators::{field_type, pointee, pointer_to, struct_behind, variable_type};

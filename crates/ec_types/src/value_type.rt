@@ -110,7 +110,7 @@ impl ValueType {
     }
 
     /// Whether this is a pointer to an element type.
-    pub(crate) fn is_pointer(&self) -> bool
+    pub fn is_pointer(&self) -> bool
         ensures { result ≡ types.is_pointer self.now }
     {
         self.is_element() && 0 < self.stars

@@ -12,16 +12,16 @@ use Rattle.ec_types.proofs.meaning.Steps.{Step, pure_step, give_back_step, divid
 use Rattle.ec_types.proofs.meaning.Relations.{Relation, Each, EachCall, turned, Steps, Binds, Catches, Ticks, Enters, Forks, Loops}
 
 module _ (R : Relation) (steps : Steps R) (binds : Binds R) where
-  stepped : {A : Type 0} {d : Does A} → ((c : Core) → Step d c) → R A d d
+  pub stepped : {A : Type 0} {d : Does A} → ((c : Core) → Step d c) → R A d d
   stepped {A = A} {d = d} s = steps A d s
 
-  pures : {A : Type 0} (a : A) → R A (pure a) (pure a)
+  pub pures : {A : Type 0} (a : A) → R A (pure a) (pure a)
   pures a = stepped (pure_step a)
 
-  followed : {A B : Type 0} {d e : Does A} {f g : A → Does B} → R A d e → Each R A B f g → R B (d >>= f) (e >>= g)
+  pub followed : {A B : Type 0} {d e : Does A} {f g : A → Does B} → R A d e → Each R A B f g → R B (d >>= f) (e >>= g)
   followed {A = A} {B = B} {d = d} {e = e} {f = f} {g = g} h k = binds A B d e f g h k
 
-  either :
+  pub either :
       {A : Type 0} {d e d' e' : Does A} (b : Bool) → R A d d' → R A e e' →
       R A (if b then d else e) (if b then d' else e')
   either true h k = h
@@ -49,22 +49,22 @@ module _ (R : Relation) (steps : Steps R) (binds : Binds R) where
 
     mutual
       pub valued : (e : Expr) (vs : Vars) → R Val (value small call e vs) (value small' call' e vs)
-      valued (Number n) vs = spends (pures (Num n))
-      valued Nil vs = spends (pures Null)
-      valued (Var x) vs = spends (pures (vs x))
-      valued (Unary op a) vs = spends (followed (valued a vs) (λ v. pures (unary_value op v)))
+      valued (Number at n) vs = spends (pures (Num n))
+      valued (Nil at) vs = spends (pures Null)
+      valued (Var at x) vs = spends (pures (vs x))
+      valued (Unary at op a) vs = spends (followed (valued a vs) (λ v. pures (unary_value op v)))
       valued (Binary at op a b) vs =
           spends (followed (valued a vs) (λ v. followed (valued b vs) (λ w.
           stepped (divided_step at (binary_value op v w)))))
-      valued (And a b) vs =
+      valued (And at a b) vs =
           spends (followed (valued a vs) (λ v. either (holds v)
           (followed (valued b vs) (λ w. pures (truth (holds w)))) (pures (Num (pos 0)))))
-      valued (Or a b) vs =
+      valued (Or at a b) vs =
           spends (followed (valued a vs) (λ v. either (holds v)
           (pures (Num (pos 1))) (followed (valued b vs) (λ w. pures (truth (holds w))))))
-      valued (Load p) vs = followed (placed p vs) (λ a. stepped (load_step a))
+      valued (Load pointer p) vs = followed (placed p vs) (λ a. stepped (load_step a))
       valued (Called i) vs = spends (invoked_both i vs)
-      valued (New at element count) vs =
+      valued (New at shape element count) vs =
           spends (followed (given_both (Num (pos 1)) count vs) (λ n. stepped (allocate_step at element n)))
       valued (ValueOf at a) vs = spends (followed (valued a vs) (λ v. stepped (load_step (shared at v))))
 
@@ -76,14 +76,14 @@ module _ (R : Relation) (steps : Steps R) (binds : Binds R) where
       placed (Element at size base index) vs =
           spends (followed (valued base vs) (λ b. followed (given_both zero_value index vs) (λ i.
           pures (element_of at size b i))))
-      placed (Behind at size first length base) vs =
-          spends (followed (valued base vs) (λ b. pures (field_of at first length (element_of at size b zero_value))))
-      placed (Field at first length p) vs = spends (followed (placed p vs) (λ a. pures (field_of at first length a)))
+      placed (Behind at size f base) vs =
+          spends (followed (valued base vs) (λ b. pures (field_of at f (element_of at size b zero_value))))
+      placed (Field at f p) vs = spends (followed (placed p vs) (λ a. pures (field_of at f a)))
       placed (Item at p index) vs =
           spends (followed (placed p vs) (λ a. followed (valued index vs) (λ i. pures (item_of at a i))))
 
       pub invoked_both : (i : Invocation) (vs : Vars) → R Val (invoked small call i vs) (invoked small' call' i vs)
-      invoked_both (Invoke f es p) vs = followed (all_valued es vs) (λ us. followed (sited p vs) (λ s. called f us s))
+      invoked_both (Invoke at f es p) vs = followed (all_valued es vs) (λ us. followed (sited p vs) (λ s. called f us s))
 
       pub all_valued : (es : Exprs) (vs : Vars) → R (List Val) (values small call es vs) (values small' call' es vs)
       all_valued Last vs = pures []
@@ -99,7 +99,7 @@ module _ (R : Relation) (steps : Steps R) (binds : Binds R) where
     -- ---- assignments and declarations
 
     pub assigned_both : (a : Assignment) (vs : Vars) → R Vars (assigned small call a vs) (assigned small' call' a vs)
-    assigned_both (SetVar x e) vs = followed (valued e vs) (λ v. pures (set x v vs))
+    assigned_both (SetVar at x e) vs = followed (valued e vs) (λ v. pures (set x v vs))
     assigned_both (Store p e) vs = followed (placed p vs) (λ a. followed (valued e vs) (λ v. saved_both a v vs))
     assigned_both (Copy p q) vs =
         followed (placed p vs) (λ a. followed (placed q vs) (λ b. followed (stepped (copy_step a b)) (λ u. pures vs)))
@@ -141,14 +141,14 @@ module _ (R : Relation) (steps : Steps R) (binds : Binds R) where
         pub done : (s : Stmt) (vs : Vars) → R Vars (does small call big n s vs) (does small' call' big' n' s vs)
         done Skip vs = spends (pures vs)
         done (Block ds ss) vs = spends (followed (all_declared_both ds vs) (all_done ss))
-        done (Par bs) vs = spends (forked_both (all_branches bs vs))
+        done (Par at bs) vs = spends (forked_both (all_branches bs vs))
         done (If e s z) vs =
             spends (followed (valued e vs) (λ v. either (holds v) (done s vs) (otherwise_done z vs)))
         done (While e s) vs = spends (looped (valued e) (done s) vs)
-        done (For a e b s) vs =
+        done (For at a e b s) vs =
             spends (followed (optional_both a vs)
             (looped (given_both (Num (pos 1)) e) (λ ws. followed (done s ws) (optional_both b))))
-        done (Forall a e b s) vs =
+        done (Forall at a e b s) vs =
             spends (forked_both (followed (assigned_both a vs)
             (looped (valued e) (λ ws. followed (branch_both (done s ws) ws) (assigned_both b)))))
         done (Set a) vs = spends (assigned_both a vs)

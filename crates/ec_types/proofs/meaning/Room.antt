@@ -110,32 +110,32 @@ same_idle A d e h i =
 module _ (call : Caller) where
   idle_place : (p : t.Place) (vs : Vars) → Idle (place true call p vs)
   idle_place (t.Element at size base index) vs c = refl
-  idle_place (t.Behind at size first length base) vs c = refl
-  idle_place (t.Field at first length p) vs c = refl
+  idle_place (t.Behind at size f base) vs c = refl
+  idle_place (t.Field at f p) vs c = refl
   idle_place (t.Item at p index) vs c = refl
 
   idle_value : (e : t.Expr) (vs : Vars) → Idle (value true call e vs)
-  idle_value (t.Number n) vs c = refl
-  idle_value t.Nil vs c = refl
-  idle_value (t.Var x) vs c = refl
-  idle_value (t.Unary op a) vs c = refl
+  idle_value (t.Number at n) vs c = refl
+  idle_value (t.Nil at) vs c = refl
+  idle_value (t.Var at x) vs c = refl
+  idle_value (t.Unary at op a) vs c = refl
   idle_value (t.Binary at op a b) vs c = refl
-  idle_value (t.And a b) vs c = refl
-  idle_value (t.Or a b) vs c = refl
-  idle_value (t.Load p) vs c = ap (λ x. and_then x load) (idle_place p vs c)
+  idle_value (t.And at a b) vs c = refl
+  idle_value (t.Or at a b) vs c = refl
+  idle_value (t.Load pointer p) vs c = ap (λ x. and_then x load) (idle_place p vs c)
   idle_value (t.Called i) vs c = refl
-  idle_value (t.New at element count) vs c = refl
+  idle_value (t.New at shape element count) vs c = refl
   idle_value (t.ValueOf at a) vs c = refl
 
   module _ (n : ℕ) where
     pub idle_does : (s : t.Stmt) (vs : Vars) → Idle (does true call true n s vs)
     idle_does t.Skip vs c = refl
     idle_does (t.Block ds ss) vs c = refl
-    idle_does (t.Par bs) vs c = refl
+    idle_does (t.Par at bs) vs c = refl
     idle_does (t.If e s z) vs c = refl
     idle_does (t.While e s) vs c = refl
-    idle_does (t.For a e b s) vs c = refl
-    idle_does (t.Forall a e b s) vs c = refl
+    idle_does (t.For at a e b s) vs c = refl
+    idle_does (t.Forall at a e b s) vs c = refl
     idle_does (t.Set a) vs c = refl
     idle_does (t.Eval i) vs c = refl
     idle_does (t.WriteTo at p e) vs c = refl

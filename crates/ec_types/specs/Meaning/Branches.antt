@@ -4,13 +4,13 @@ use Rattle.ec_types.specs.Meaning.Tree.{Expr, Number, Nil, Var, Unary, Binary, A
 
 -- only variables, numbers, NULL, `&x` and operators on values
 abbrev pub is_plain : Expr → Bool
-is_plain (Number n) = true
-is_plain Nil = true
-is_plain (Var x) = true
-is_plain (Unary op a) = is_plain a
+is_plain (Number at n) = true
+is_plain (Nil at) = true
+is_plain (Var at x) = true
+is_plain (Unary at op a) = is_plain a
 is_plain (Binary at op a b) = is_plain a && is_plain b
-is_plain (And a b) = is_plain a && is_plain b
-is_plain (Or a b) = is_plain a && is_plain b
+is_plain (And at a b) = is_plain a && is_plain b
+is_plain (Or at a b) = is_plain a && is_plain b
 is_plain e = false
 
 abbrev pub are_plain : Exprs → Bool
@@ -23,7 +23,7 @@ is_plain_place (OnNode e) = is_plain e
 is_plain_place p = true
 
 abbrev pub is_plain_call : Invocation → Bool
-is_plain_call (Invoke f es p) = are_plain es && is_plain_place p
+is_plain_call (Invoke at f es p) = are_plain es && is_plain_place p
 
 -- a call, whether its result is used or not
 abbrev pub is_call : Expr → Bool
@@ -33,5 +33,5 @@ is_call e = false
 -- one call statement, or one assignment of a call to a variable
 abbrev pub is_call_branch : Stmt → Bool
 is_call_branch (Eval i) = is_plain_call i
-is_call_branch (Set (SetVar x e)) = is_call e
+is_call_branch (Set (SetVar at x e)) = is_call e
 is_call_branch s = false

@@ -7,7 +7,7 @@ use Rattle.ec_base.specs.declared.trap.TrapKind.TheVariants as kind
 use Rattle.ec_types.specs.Meaning.Values.{Val, Num, Null, zero_value, number, holds, truth, unary_value, binary_value}
 use Rattle.ec_types.specs.Meaning.State.{Site, Here, OwnerOf, Home, Node, Anywhere, Out, Does, With, Returns, Traps, Going, ◌>>=◌, pure, trap, give_back, going, tick, Vars, set, set_all, unset, enter, births_after}
 use Rattle.ec_types.specs.Meaning.Memory.{Access, load, save, copy, shared, add, allocate, born}
-use Rattle.ec_types.specs.Meaning.Tree.{Expr, Number, Nil, Var, Unary, Binary, And, Or, Load, Called, New, ValueOf, Part, Missing, Given, Place, Element, Behind, Field, Item, Invocation, Invoke, Exprs, Last, Arg, Placing, OnThis, OnOwner, OnHome, OnNode, OnAny, Assignment, SetVar, Store, Copy, Decl, Plain, Shared, Stmt, Skip, Block, Par, If, While, For, Forall, Set, Eval, WriteTo, AddTo, Print, Return, Else, NoElse, Otherwise, Stmts, End, Then, Function}
+use Rattle.ec_types.specs.Meaning.Tree.{FieldAt, Expr, Number, Nil, Var, Unary, Binary, And, Or, Load, Called, New, ValueOf, Part, Missing, Given, Place, Element, Behind, Field, Item, Invocation, Invoke, Exprs, Last, Arg, Placing, OnThis, OnOwner, OnHome, OnNode, OnAny, Assignment, SetVar, Store, Copy, Decl, Plain, Shared, Stmt, Skip, Block, Par, If, While, For, Forall, Set, Eval, WriteTo, AddTo, Print, Return, Else, NoElse, Otherwise, Stmts, End, Then, Function}
 use Rattle.ec_types.specs.Meaning.Branches.{is_call_branch}
 
 -- what calls of a function do
@@ -27,8 +27,8 @@ abbrev pub element_of : Span → ℕ → Val → Val → Access
 element_of at size base index =
     record { at = at; base = base; index = number index; size = size; first = 0; item = pos 0; length = 1 }
 
-abbrev pub field_of : Span → ℕ → ℕ → Access → Access
-field_of at first length a = record a { at = at; first = first; length = length }
+abbrev pub field_of : Span → FieldAt → Access → Access
+field_of at f a = record a { at = at; first = f.first; length = f.length }
 
 abbrev pub item_of : Span → Access → Val → Access
 item_of at a i = record a { at = at; item = number i }
@@ -38,18 +38,18 @@ module _ (small : Bool) (call : Caller) where
 
   abbrev mutual
     pub value : Expr → Vars → Does Val
-    value (Number n) vs = tick small (pure (Num n))
-    value Nil vs = tick small (pure Null)
-    value (Var x) vs = tick small (pure (vs x))
-    value (Unary op a) vs = tick small (value a vs >>= (λ v. pure (unary_value op v)))
+    value (Number at n) vs = tick small (pure (Num n))
+    value (Nil at) vs = tick small (pure Null)
+    value (Var at x) vs = tick small (pure (vs x))
+    value (Unary at op a) vs = tick small (value a vs >>= (λ v. pure (unary_value op v)))
     value (Binary at op a b) vs = tick small (value a vs >>= (λ v. value b vs >>= (λ w. divided at (binary_value op v w))))
-    value (And a b) vs =
+    value (And at a b) vs =
         tick small (value a vs >>= (λ v. if holds v then (value b vs >>= (λ w. pure (truth (holds w)))) else pure (Num (pos 0))))
-    value (Or a b) vs =
+    value (Or at a b) vs =
         tick small (value a vs >>= (λ v. if holds v then pure (Num (pos 1)) else (value b vs >>= (λ w. pure (truth (holds w))))))
-    value (Load p) vs = place p vs >>= load
+    value (Load pointer p) vs = place p vs >>= load
     value (Called i) vs = tick small (invoked i vs)
-    value (New at element count) vs = tick small (given (Num (pos 1)) count vs >>= allocate at element)
+    value (New at shape element count) vs = tick small (given (Num (pos 1)) count vs >>= allocate at element)
     value (ValueOf at a) vs = tick small (value a vs >>= (λ v. load (shared at v)))
 
     -- what is missing has a value of its own
@@ -61,14 +61,14 @@ module _ (small : Bool) (call : Caller) where
     pub place : Place → Vars → Does Access
     place (Element at size base index) vs =
         tick small (value base vs >>= (λ b. given zero_value index vs >>= (λ i. pure (element_of at size b i))))
-    place (Behind at size first length base) vs =
-        tick small (value base vs >>= (λ b. pure (field_of at first length (element_of at size b zero_value))))
-    place (Field at first length p) vs = tick small (place p vs >>= (λ a. pure (field_of at first length a)))
+    place (Behind at size f base) vs =
+        tick small (value base vs >>= (λ b. pure (field_of at f (element_of at size b zero_value))))
+    place (Field at f p) vs = tick small (place p vs >>= (λ a. pure (field_of at f a)))
     place (Item at p index) vs = tick small (place p vs >>= (λ a. value index vs >>= (λ i. pure (item_of at a i))))
 
     -- the arguments, then the placement's operand, and then the call
     pub invoked : Invocation → Vars → Does Val
-    invoked (Invoke f es p) vs = values es vs >>= (λ us. site p vs >>= (λ s. call f us s))
+    invoked (Invoke at f es p) vs = values es vs >>= (λ us. site p vs >>= (λ s. call f us s))
 
     pub values : Exprs → Vars → Does (List Val)
     values Last vs = pure []
@@ -84,7 +84,7 @@ module _ (small : Bool) (call : Caller) where
   -- ---- assignments and declarations
 
   abbrev pub assigned : Assignment → Vars → Does Vars
-  assigned (SetVar x e) vs = value e vs >>= (λ v. pure (set x v vs))
+  assigned (SetVar at x e) vs = value e vs >>= (λ v. pure (set x v vs))
   assigned (Store p e) vs = place p vs >>= (λ a. value e vs >>= (λ v. save a v >>= (λ u. pure vs)))
   assigned (Copy p q) vs = place p vs >>= (λ a. place q vs >>= (λ b. copy a b >>= (λ u. pure vs)))
 
@@ -134,12 +134,12 @@ module _ (small : Bool) (call : Caller) where
       pub does : Stmt → Vars → Does Vars
       does Skip vs = tick small (pure vs)
       does (Block ds ss) vs = tick small (all_declared ds vs >>= all ss)
-      does (Par bs) vs = tick small (fork (branches bs vs))
+      does (Par at bs) vs = tick small (fork (branches bs vs))
       does (If e s z) vs = tick small (value e vs >>= (λ v. if holds v then does s vs else otherwise z vs))
       does (While e s) vs = tick small (turns n (value e) (does s) vs)
-      does (For a e b s) vs =
+      does (For at a e b s) vs =
           tick small (optional a vs >>= turns n (given (Num (pos 1)) e) (λ ws. does s ws >>= optional b))
-      does (Forall a e b s) vs =
+      does (Forall at a e b s) vs =
           tick small (fork (assigned a vs >>= turns n (value e) (λ ws. branch (does s ws) ws >>= assigned b)))
       does (Set a) vs = tick small (assigned a vs)
       does (Eval i) vs = tick small (invoked i vs >>= (λ v. pure vs))

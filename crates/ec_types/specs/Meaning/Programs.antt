@@ -31,7 +31,7 @@ root = record { path = []; births = 0; most = 0; output = []; store = λ p. None
 
 -- a main without function doesn't occur in typed programs
 abbrev pub main_or : Option Function → Function
-main_or None = record { params = []; pointer = false; decls = []; body = End }
+main_or None = record { params = []; variables = []; void = true; pointer = false; shape = 0; decls = []; body = End }
 main_or (Some f) = f
 
 -- main with these arguments and at most k ticks

@@ -1,26 +1,42 @@
--- Programs whose names and types are resolved: variables and functions are numbers, and accesses know their cells.
+-- Programs whose names and types are resolved: variables and functions are numbers, and accesses know their cells. Nodes know
+-- where they stand, and the shapes behind pointers; what they mean is told without these, but for the places of traps.
 use Rattle.std.specs.Prelude.{ℕ, ℤ, Bool, List, [], ◌∷◌, Option, Some, None}
 use Rattle.ec_base.specs.declared.operator.BinOp.{BinOp}
 use Rattle.ec_base.specs.declared.operator.UnOp.{UnOp}
 use Rattle.ec_base.specs.declared.token.Span.{Span}
 use Rattle.ec_types.specs.Meaning.Values.{Val}
 
+-- The shape of an element by its number: 0 is an int, 1 a pointer, and from 2 on the structs in order.
+abbrev pub Shape : Type 0
+Shape = ℕ
+
+-- what a value is: a pointer to elements of this shape, or none
+abbrev pub Pointer : Type 0
+Pointer = Option Shape
+
+-- a field: its number in its struct, its first cell, and the length of an array field, otherwise 1
+pub record FieldAt : Type 0 where
+  pub number : ℕ
+  pub first : ℕ
+  pub length : ℕ
+
 -- ---- expressions; what stands in parentheses stands for itself
 
 mutual
   pub data Expr : Type 0 where
-    Number : ℤ → Expr
-    Nil : Expr
+    Number : Span → ℤ → Expr
+    Nil : Span → Expr
     -- a variable, or `&` and a shared one
-    Var : ℕ → Expr
-    Unary : UnOp → Expr → Expr
+    Var : Span → ℕ → Expr
+    Unary : Span → UnOp → Expr → Expr
     Binary : Span → BinOp → Expr → Expr → Expr
-    And : Expr → Expr → Expr
-    Or : Expr → Expr → Expr
-    Load : Place → Expr
+    And : Span → Expr → Expr → Expr
+    Or : Span → Expr → Expr → Expr
+    -- what is loaded may be a pointer
+    Load : Pointer → Place → Expr
     Called : Invocation → Expr
-    -- a `malloc`: the cells of an element, and how many elements
-    New : Span → List Val → Part → Expr
+    -- a `malloc`: the shape and the cells of an element, and how many elements
+    New : Span → Shape → List Val → Part → Expr
     ValueOf : Span → Expr → Expr
 
   -- what may be missing
@@ -28,20 +44,19 @@ mutual
     Missing : Part
     Given : Expr → Part
 
-  -- An access; its cells are those of an element, a field's first cell, and the length of an array field (otherwise 1).
   pub data Place : Type 0 where
     -- `*e` and `e[i]`: the cells of an element, the pointer, and the index
     Element : Span → ℕ → Expr → Part → Place
-    -- `e->f`: the cells of an element, the field's first cell and length, and the pointer
-    Behind : Span → ℕ → ℕ → ℕ → Expr → Place
-    -- `.f`: the field's first cell and length, and the element
-    Field : Span → ℕ → ℕ → Place → Place
+    -- `e->f`: the cells of an element, the field, and the pointer
+    Behind : Span → ℕ → FieldAt → Expr → Place
+    -- `.f`: the field, and the element
+    Field : Span → FieldAt → Place → Place
     -- `[i]` on an array field
     Item : Span → Place → Expr → Place
 
   -- a call: the function, its arguments and where it is placed
   pub data Invocation : Type 0 where
-    Invoke : ℕ → Exprs → Placing → Invocation
+    Invoke : Span → ℕ → Exprs → Placing → Invocation
 
   pub data Exprs : Type 0 where
     Last : Exprs
@@ -65,7 +80,8 @@ exprs (e ∷ es) = Arg e (exprs es)
 -- ---- statements
 
 pub data Assignment : Type 0 where
-  SetVar : ℕ → Expr → Assignment
+  -- a variable, which stands there
+  SetVar : Span → ℕ → Expr → Assignment
   Store : Place → Expr → Assignment
   -- target, then source
   Copy : Place → Place → Assignment
@@ -79,11 +95,11 @@ mutual
   pub data Stmt : Type 0 where
     Skip : Stmt
     Block : List Decl → Stmts → Stmt
-    Par : Stmts → Stmt
+    Par : Span → Stmts → Stmt
     If : Expr → Stmt → Else → Stmt
     While : Expr → Stmt → Stmt
-    For : Option Assignment → Part → Option Assignment → Stmt → Stmt
-    Forall : Assignment → Expr → Assignment → Stmt → Stmt
+    For : Span → Option Assignment → Part → Option Assignment → Stmt → Stmt
+    Forall : Span → Assignment → Expr → Assignment → Stmt → Stmt
     Set : Assignment → Stmt
     Eval : Invocation → Stmt
     WriteTo : Span → Expr → Expr → Stmt
@@ -109,9 +125,19 @@ stmts (x ∷ xs) = Then x (stmts xs)
 
 -- ---- functions
 
--- its parameters, whether it gives a pointer, and its body
+-- a variable or parameter: where it is declared, whether it is shared or local, and whether it is a pointer
+pub record Variable : Type 0 where
+  pub at : Span
+  pub shared : Bool
+  pub local : Bool
+  pub pointer : Pointer
+
+-- its parameters among its variables, whether it gives nothing or a pointer, the shape behind that, and its body
 pub record Function : Type 0 where
   pub params : List ℕ
+  pub variables : List Variable
+  pub void : Bool
   pub pointer : Bool
+  pub shape : Shape
   pub decls : List Decl
   pub body : Stmts

@@ -1,8 +1,17 @@
-use Rattle.std.proofs.Common.{◌∙◌, ap, option_copied, option_map}
+use Rattle.std.proofs.Common.{◌∙◌, ap, option_copied, option_map, arith}
 use Rattle.ec_types.proofs.ArgumentLists.{found}
 use Rattle.ec_resolve.specs.Seen as seen
 use Rattle.ec_resolve.proofs.Places.{none_named, none_standing, one_standing}
+use Rattle.ec_resolve.proofs.Within.{found_within, few_fields}
 use Rattle.ec_resolve.proofs.fields.found_in.Goals as goal
+
+pub overflow_cast-number : goal.overflow_cast-number
+overflow_cast-number c =
+    omega (
+      arith,
+      few_fields c.args.s.now c.requires,
+      found_within (λ f. f.name.text) c.args.s.now.fields c.args.name.now c.place.result c.in_ok-at.at c.place.ensures c.in_ok-at.was,
+    )
 
 pub returns-in_err-at-clause-field : goal.returns-in_err-at-clause-field
 returns-in_err-at-clause-field c =

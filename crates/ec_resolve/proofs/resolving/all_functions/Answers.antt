@@ -1,4 +1,4 @@
-use Rattle.std.proofs.Common.{length, map}
+use Rattle.std.proofs.Common.{map}
 use Rattle.ec_types.specs.Meaning.Resolution as resolution
 use Rattle.ec_resolve.specs.Erased.{function}
 use Rattle.ec_resolve.proofs.Lists.{goes_on}
@@ -8,14 +8,6 @@ pub loop-f-preserved : goal.loop-f-preserved
 loop-f-preserved c =
     let items = c.all-f-items.result.now in
     let resolved = resolution.function c.args.structs.now c.args.functions.now in
-    record {
-      functions =
-          goes_on function resolved (λ f. f.now) (map resolved (map (λ f. f.now) items)) c.loop-f.all c.push.new.self items
-          c.loop-f.f-index c.in_ok-function.field-0 c.f-item.result c.loop-f-test.true c.f-item.is
-          c.in_ok-function.ensures.function c.in_ok-push.ensures.ok c.loop-f.invariant.functions;
-      variables =
-          goes_on (λ r. r.variables) (λ f. length (resolution.variables f)) (λ f. f.now)
-          (map (λ f. length (resolution.variables f)) (map (λ f. f.now) items)) c.loop-f.all c.push.new.self items
-          c.loop-f.f-index c.in_ok-function.field-0 c.f-item.result c.loop-f-test.true c.f-item.is
-          c.in_ok-function.ensures.variables c.in_ok-push.ensures.ok c.loop-f.invariant.variables;
-    }
+    goes_on function resolved (λ f. f.now) (map resolved (map (λ f. f.now) items)) c.loop-f.all c.push.new.self items
+    c.loop-f.f-index c.in_ok-function.field-0 c.f-item.result c.loop-f-test.true c.f-item.is
+    c.in_ok-function.ensures c.in_ok-push.ensures.ok c.loop-f.invariant

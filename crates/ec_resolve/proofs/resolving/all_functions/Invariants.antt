@@ -1,14 +1,9 @@
-use Rattle.std.proofs.Common.{◌≡◌, ◌++◌, length, map, drop}
+use Rattle.std.proofs.Common.{◌≡◌, ◌++◌, map, drop}
 use Rattle.ec_types.specs.Meaning.Resolution as resolution
 use Rattle.ec_resolve.specs.Erased.{function}
 use Rattle.ec_resolve.proofs.resolving.all_functions.Given as goal
 
 abbrev pub invariant-loop-f : goal.invariant-loop-f
-invariant-loop-f l = record {
-  functions :
-      map function l.all ++ map (resolution.function l.structs l.functions) (map (λ f. f.now) (drop l.f-index l.f-items))
-      ≡ map (resolution.function l.structs l.functions) (map (λ f. f.now) l.f-items);
-  variables :
-      map (λ r. r.variables) l.all ++ map (λ f. length (resolution.variables f)) (map (λ f. f.now) (drop l.f-index l.f-items))
-      ≡ map (λ f. length (resolution.variables f)) (map (λ f. f.now) l.f-items);
-}
+invariant-loop-f l =
+    map function l.all ++ map (resolution.function l.structs l.functions) (map (λ f. f.now) (drop l.f-index l.f-items))
+    ≡ map (resolution.function l.structs l.functions) (map (λ f. f.now) l.f-items)

@@ -3,4 +3,4 @@ use Rattle.ec_resolve.proofs.layouts.Layouts.named.Goals as goal
 
 pub returns-clause-small : goal.returns-clause-small
 returns-clause-small c =
-    named_small c.self.inside.structs c.args.name.now c.named.result c.self.invariant.1 c.named.ensures
+    named_small c.self.inside.structs c.args.name.now c.named.result c.self.invariant.1.0 c.named.ensures
