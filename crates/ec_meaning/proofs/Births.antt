@@ -1,7 +1,8 @@
 -- Blocks that come to be, and what a `malloc` does.
-use Rattle.std.proofs.Common.{◌≡◌, refl, sym, ap, ◌∙◌, ℕ, suc, Bool, true, false, if◌then◌else◌, List, [], ◌∷◌, map, length, drop, get_or, Option, Some, None, option_map, Result, Ok, Err, ℤ, pos, negsuc, ◌<◌, arith}
+use Rattle.std.proofs.Common.{◌≡◌, refl, sym, ap, ◌∙◌, ℕ, suc, Bool, true, false, if◌then◌else◌, List, [], ◌∷◌, ◌++◌, map, length, drop, get_or, Option, Some, None, option_map, Result, Ok, Err, ℤ, pos, negsuc, ◌<◌, arith, add-one}
 use Rattle.std.specs.Prelude.{slice_get}
 use Rattle.std.proofs.Math.Path.{fun_ext}
+use Rattle.std.proofs.lemmas.List.{map-append}
 use Rattle.std.proofs.lemmas.Option.{same_Some}
 use Rattle.std.specs.Cmp.Lexicographic.{same_text, other_text}
 use Rattle.ec_base.specs.Words.{same}
@@ -23,8 +24,10 @@ use Rattle.ec_base.specs.declared.fail.Fail.TheVariants.{Memory, Refused}
 use Rattle.ec_base.specs.declared.token.Span.{Span}
 use Rattle.ec_base.specs.declared.trap.Trap.{Trap}
 use Rattle.ec_base.specs.declared.trap.TrapKind.TheVariants.{BadSize}
+use Rattle.ec_meaning.specs.Order.{InOrder, paths}
 use Rattle.ec_meaning.specs.Seen.{Untold, Tells, Performs, val, cells, store, core}
 use Rattle.ec_meaning.proofs.Blocks.{unlike, find_pushed, got_pushed, stays_pushed, store_numbered}
+use Rattle.ec_meaning.proofs.Order.{InOrder-born}
 
 module _ (u : Untold) where
   module _ (b : Block) (old new : Core) (n : Born b old new) where
@@ -63,6 +66,18 @@ module _ (u : Untold) where
         made : (Path → Option (List Val)) → Out Val
         made s = (With (values.To (next_path (core u old))), record (core u old) { births = suc (get_or old.births 0 0); store = s }, r)
 
+-- blocks stay in order
+born_ordered : (b : Block) (old new : Core) → Born b old new → InOrder old → InOrder new
+born_ordered b old new n o = by old.births refl
+  where
+    by : (births : List ℕ) → births ≡ old.births → InOrder new
+    by [] e = absurd (o.running (sym e))
+    by (x ∷ xs) e =
+        InOrder-born old new o x xs (sym e)
+        (n.births ∙ ap (λ bs. suc (get_or bs 0 0) ∷ drop 1 bs) (sym e) ∙ ap (λ k. k ∷ xs) (sym (add-one x)))
+        (ap paths n.blocks ∙ map-append (λ c. c.path) old.blocks.items (b ∷ [])
+        ∙ ap (λ p. paths old.blocks.items ++ p ∷ []) n.path)
+
 -- ---- answers of births
 
 pub bears_kept : (held : List Value) (old new : Core) (result : Result Value (Fail Trap)) → Bears held old new result → Kept result old new
@@ -71,6 +86,7 @@ bears_kept held old new (Ok v) b = record {
   above = ap (drop 1) b.born.births;
   open_ones = λ h. open_still old.births h (ap length b.born.births);
   most = b.born.most;
+  ordered = born_ordered b.block old new b.born;
 }
   where
     open_still : (births : List ℕ) → 0 < length births →

@@ -11,6 +11,7 @@ use Rattle.ec_types.specs.Meaning.State.{Out, With, next_path, trap}
 use Rattle.ec_types.specs.Meaning.Memory.{put_block}
 use Rattle.ec_meaning.specs.declared.value.Block.{Block}
 use Rattle.ec_meaning.specs.declared.shared_state.Core.{Core}
+use Rattle.ec_meaning.specs.Order.{paths}
 use Rattle.ec_meaning.specs.Reached.{Puts}
 use Rattle.ec_meaning.specs.Seen.{Untold, Tells, cells, store, core}
 
@@ -94,6 +95,17 @@ pub stays_pushed : (blocks : List Block) (b : Block) (k : ℕ) (x : Block) →
 stays_pushed [] b k x e = absurd (none-some x e)
 stays_pushed (y ∷ ys) b zero x e = e
 stays_pushed (y ∷ ys) b (suc k) x e = stays_pushed ys b k x e
+
+-- a block with the same path leaves the paths as they are
+paths_set : (blocks : List Block) (k : ℕ) (before after : Block) →
+    slice_get blocks k ≡ Some before → after.path ≡ before.path → paths (slice_set blocks k after) ≡ paths blocks
+paths_set [] k before after e p = absurd (none-some before e)
+paths_set (b ∷ bs) zero before after e p = ap (λ q. q ∷ paths bs) (p ∙ ap (λ x. x.path) (sym (same_Some b before e)))
+paths_set (b ∷ bs) (suc k) before after e p = ap (λ ps. b.path ∷ ps) (paths_set bs k before after e p)
+
+pub paths_put : (k : ℕ) (before after : Block) (old new : Core) → Puts k before after old new →
+    paths new.blocks.items ≡ paths old.blocks.items
+paths_put k before after old new p = ap paths p.blocks ∙ paths_set old.blocks.items k before after p.held p.path
 
 -- ---- the state after a block is changed or born
 

@@ -81,8 +81,8 @@ module _ (call : Caller) (n : ℕ) where
       simp then_then (then_same (value true call e h.vars) _ _ (λ v. called f (count es) us (at v) h k)))
 
   pub call_opens : (i : t.Invocation) (h : Hand) → Opens call n false (Call i) h (of_call i) h
-  call_opens (t.Invoke f es t.OnThis) h = call_at f es state.Here h ∙ simp (then_then, then_pure)
-  call_opens (t.Invoke f es (t.OnOwner e)) h = call_behind f es e state.OwnerOf h ∙ simp (then_then, then_pure)
-  call_opens (t.Invoke f es t.OnHome) h = call_at f es state.Home h ∙ simp (then_then, then_pure)
-  call_opens (t.Invoke f es (t.OnNode e)) h = call_behind f es e state.Node h ∙ simp (then_then, then_pure)
-  call_opens (t.Invoke f es t.OnAny) h = call_at f es state.Anywhere h ∙ simp (then_then, then_pure)
+  call_opens (t.Invoke at f es t.OnThis) h = call_at f es state.Here h ∙ simp (then_then, then_pure)
+  call_opens (t.Invoke at f es (t.OnOwner e)) h = call_behind f es e state.OwnerOf h ∙ simp (then_then, then_pure)
+  call_opens (t.Invoke at f es t.OnHome) h = call_at f es state.Home h ∙ simp (then_then, then_pure)
+  call_opens (t.Invoke at f es (t.OnNode e)) h = call_behind f es e state.Node h ∙ simp (then_then, then_pure)
+  call_opens (t.Invoke at f es t.OnAny) h = call_at f es state.Anywhere h ∙ simp (then_then, then_pure)

@@ -5,7 +5,7 @@ use Rattle.ec_types.specs.Meaning.Values.{Path, Val, zero_value}
 use Rattle.ec_types.specs.Meaning.State as state
 use Rattle.ec_types.specs.Meaning.State.{Core, Out, Does, With, Returns, Traps, Going, and_then, ◌>>=◌, pure, next_path, inner, back_in, outer, opened, enter, Vars, set_all, unset}
 use Rattle.ec_types.specs.Meaning.Tree.{Stmt, Function}
-use Rattle.ec_types.specs.Meaning.Evaluation.{Caller, Program, all_declared, all, branched, does, result, body, run_function, calls}
+use Rattle.ec_types.specs.Meaning.Evaluation.{Caller, Program, all_declared, all, branched, does, result, run_function, calls}
 use Rattle.ec_types.proofs.meaning.Keeps.{kept_body, kept_calls}
 use Rattle.ec_types.proofs.meaning.Room.{same_bodies}
 use Rattle.ec_meaning.specs.Works.{Placement, Work, Enter, Declare, Statement, Statements, Branch, Hand}
@@ -20,10 +20,10 @@ use Rattle.ec_meaning.proofs.Keeps.{acts-keeps}
 shorter : (p : Path) (b : ℕ) → length (p ++ b ∷ []) - 1 ≡ length p
 shorter p b = rw length-append (omega arith)
 
-path_above : (p : Path) (b : ℕ) → take (length (p ++ b ∷ []) - 1) (p ++ b ∷ []) ≡ p
+pub path_above : (p : Path) (b : ℕ) → take (length (p ++ b ∷ []) - 1) (p ++ b ∷ []) ≡ p
 path_above p b = ap (λ n. take n (p ++ b ∷ [])) (shorter p b) ∙ take-append_seam p (b ∷ [])
 
-birth_above : (p : Path) (b : ℕ) → get_or (p ++ b ∷ []) (length (p ++ b ∷ []) - 1) 0 ≡ b
+pub birth_above : (p : Path) (b : ℕ) → get_or (p ++ b ∷ []) (length (p ++ b ∷ []) - 1) 0 ≡ b
 birth_above p b = ap (λ n. get_or (p ++ b ∷ []) n 0) (shorter p b) ∙ get_or-append_seam p b [] 0
 
 pub above_child : (c d : Core) → d.path ≡ next_path c → back_in c d ≡ above d

@@ -1,9 +1,9 @@
 -- How works for expressions, accesses and arguments open.
-use Rattle.std.proofs.Common.{◌≡◌, refl, ap, ◌∙◌, ℕ, Bool, true, false, if◌then◌else◌, List, [], ◌∷◌, ◌++◌, length, reverse, append_assoc, pos}
+use Rattle.std.proofs.Common.{◌≡◌, refl, ap, ◌∙◌, ℕ, Bool, true, false, if◌then◌else◌, List, [], ◌∷◌, ◌++◌, reverse, append_assoc, pos}
 use Rattle.std.proofs.lemmas.Grind.{reverse_onto}
 use Rattle.ec_types.specs.Meaning.Values.{Val, Num, holds}
 use Rattle.ec_types.specs.Meaning.State.{Does, ◌>>=◌, pure, tick}
-use Rattle.ec_types.specs.Meaning.Evaluation.{Caller, value, given, place, values}
+use Rattle.ec_types.specs.Meaning.Evaluation.{Caller, value, given, values}
 use Rattle.ec_types.specs.Meaning.Tree as t
 use Rattle.ec_meaning.specs.Works.{Work, Hand, Value, Constant, Reach, Arguments, AndThen, OrElse, AsTruth}
 use Rattle.ec_meaning.specs.Acts.{acts, act_all, top, push, without, push_all, giving}
@@ -21,22 +21,22 @@ module _ (call : Caller) (n : ℕ) where
   part_acts v (t.Given e) h = refl
 
   pub value_opens : (e : t.Expr) (h : Hand) → Opens (value_ticks e) (Value e) h (of_value e h) h
-  value_opens (t.Number k) h = tick_then true _ _
-  value_opens t.Nil h = tick_then true _ _
-  value_opens (t.Var x) h = tick_then true _ _
-  value_opens (t.Unary op a) h = tick_then true _ _ ∙ simp then_then
+  value_opens (t.Number at k) h = tick_then true _ _
+  value_opens (t.Nil at) h = tick_then true _ _
+  value_opens (t.Var at x) h = tick_then true _ _
+  value_opens (t.Unary at op a) h = tick_then true _ _ ∙ simp then_then
   value_opens (t.Binary at op a b) h = tick_then true _ _ ∙ simp then_then
-  value_opens (t.And a b) h = tick_then true _ _ ∙ simp (then_then, if_then)
-  value_opens (t.Or a b) h = tick_then true _ _ ∙ simp (then_then, if_then)
-  value_opens (t.Load p) h = simp (then_then, then_pure)
+  value_opens (t.And at a b) h = tick_then true _ _ ∙ simp (then_then, if_then)
+  value_opens (t.Or at a b) h = tick_then true _ _ ∙ simp (then_then, if_then)
+  value_opens (t.Load pointer p) h = simp (then_then, then_pure)
   value_opens (t.Called i) h = tick_then true _ _ ∙ simp (then_then, then_pure)
-  value_opens (t.New at element e) h = tick_then true _ _ ∙ simp (part_acts, then_then, then_pure)
+  value_opens (t.New at shape element e) h = tick_then true _ _ ∙ simp (part_acts, then_then, then_pure)
   value_opens (t.ValueOf at a) h = tick_then true _ _ ∙ simp (then_then, then_pure)
 
   pub place_opens : (p : t.Place) (h : Hand) → Opens true (Reach p) h (of_place p) h
   place_opens (t.Element at size base index) h = tick_then true _ _ ∙ simp (part_acts, then_then)
-  place_opens (t.Behind at size first length base) h = tick_then true _ _ ∙ simp then_then
-  place_opens (t.Field at first length p) h = tick_then true _ _ ∙ simp then_then
+  place_opens (t.Behind at size f base) h = tick_then true _ _ ∙ simp then_then
+  place_opens (t.Field at f p) h = tick_then true _ _ ∙ simp then_then
   place_opens (t.Item at p index) h = tick_then true _ _ ∙ simp then_then
 
   -- ---- what stands behind a test

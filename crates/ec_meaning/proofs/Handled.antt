@@ -1,7 +1,6 @@
 -- What is taken from the hand, and what it is afterwards.
 use Rattle.std.proofs.Common.{◌≡◌, refl, sym, ap, ◌∙◌, ℕ, List, [], ◌∷◌, ◌++◌, map, take, drop, reverse, Option, Some, None, option_map, ℤ, get_or, Result, Ok, Err, pos}
 use Rattle.std.proofs.Math.ListN.{get_or-map}
-use Rattle.std.proofs.lemmas.List.{reverse-append, map-append}
 use Rattle.std.specs.List.{take-map, drop-map}
 use Rattle.ec_base.specs.declared.fail.Fail.{Fail}
 use Rattle.ec_base.specs.declared.fail.Fail.TheVariants.{Memory, Refused}
@@ -23,13 +22,7 @@ use Rattle.ec_meaning.specs.Kept.{Keeps, Kept}
 use Rattle.ec_meaning.specs.Reached as reached
 use Rattle.ec_meaning.specs.Reached.{Gave, number_of}
 use Rattle.ec_meaning.specs.Seen.{Untold, Performs, val, access, table, hand, core}
-
-map-reverse : {A B : Type 0} (f : A → B) (xs : List A) → reverse (map f xs) ≡ map f (reverse xs)
-map-reverse f [] = refl
-map-reverse f (x ∷ xs) =
-    reverse-append (f x ∷ []) (map f xs)
-    ∙ ap (λ ys. ys ++ f x ∷ []) (map-reverse f xs)
-    ∙ sym (ap (map f) (reverse-append (x ∷ []) xs) ∙ map-append f (reverse xs) (x ∷ []))
+use Rattle.ec_meaning.proofs.Lists.{map-reverse}
 
 module _ (u : Untold) where
   -- ---- what is taken
@@ -147,6 +140,24 @@ drop_twice [] = refl
 drop_twice (x ∷ []) = refl
 drop_twice (x ∷ y ∷ ys) = refl
 
+-- what is done with them, where nothing is put there
+pub two_taken :
+    (u : Untold) (act : Val → Val → Out (Unit {0})) (old : Hand) (last before : Value) (rest others : List Value)
+    (result : Result (Unit {0}) (Fail Trap)) (c : state.Core) (r : ℕ) →
+    last ≡ get_or old.values 0 (Int (pos 0)) → rest ≡ drop 1 old.values →
+    before ≡ get_or rest 0 (Int (pos 0)) → others ≡ drop 1 rest →
+    Performs (λ done. done) result (act (val u before) (val u last)) c r →
+    Performs (λ done. hand u (record old { values = others })) result
+    (and_then (act (get_or (map (val u) old.values) 1 zero_value) (get_or (map (val u) old.values) 0 zero_value))
+    (λ d. pure (left u 2 0 old old (drop 2 (map (val u) old.values))))) c r
+two_taken u act old last before rest others result c r last_is rest_is before_is others_is is =
+    rw (
+      top_is u old.values ∙ ap (val u) (sym last_is),
+      second_is u old.values ∙ ap (λ vs. val u (get_or vs 0 (Int (pos 0)))) (sym rest_is) ∙ ap (val u) (sym before_is),
+    )
+    (left_behind u 2 0 old (record old { values = others }) result (act (val u before) (val u last)) c r is
+    (others_is ∙ ap (drop 1) rest_is ∙ drop_twice old.values) refl refl)
+
 -- what an answer keeps is kept
 pub gave_kept :
     (answer : Result Value (Fail Trap)) (result : Result (Unit {0}) (Fail Trap)) (vs vs' : List Value) (old new : Core) →
@@ -159,7 +170,7 @@ gave_kept (Err Memory) (Err (Refused t)) vs vs' old new kept given = cc
 gave_kept (Err (Refused s)) (Err (Refused t)) vs vs' old new kept given = kept
 
 pub keeps_itself : (c : Core) → Keeps c c
-keeps_itself c = record { tells = λ u t. t; above = refl; open_ones = λ h. refl; most = refl }
+keeps_itself c = record { tells = λ u t. t; above = refl; open_ones = λ h. refl; most = refl; ordered = λ o. o }
 
 pub kept_same : (result : Result (Unit {0}) (Fail Trap)) (c : Core) → Kept result c c
 kept_same (Ok done) c = keeps_itself c

@@ -32,3 +32,13 @@ pub mod Handled
 pub mod Order
 pub mod Untold
 pub mod Remembered
+-- views with the same paths, activations, and steps of the machine in code
+pub mod Views
+pub mod Parameters
+pub mod Activations
+pub mod MachineSteps
+pub mod Starting
+pub mod Entering
+-- all steps, from the start to the answer
+pub mod Finale
+pub mod Final

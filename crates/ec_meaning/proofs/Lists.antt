@@ -1,7 +1,7 @@
 -- Lists from behind.
 use Rattle.std.proofs.Common.{◌≡◌, refl, sym, ap, ◌∙◌, ℕ, zero, suc, add-one, ◌+◌, ◌-◌, ◌≤◌, ◌<◌, List, [], ◌∷◌, ◌++◌, length, take, drop, reverse, map, inl, inr, arith}
 use Rattle.std.proofs.lemmas.Bool.{cases_lt}
-use Rattle.std.proofs.lemmas.List.{take-append-le, drop-append-le, take_all, drop_all, reverse-append, length-reverse, length-drop, reverse-reverse, take-append-drop, append_assoc, append-nil, map-append}
+use Rattle.std.proofs.lemmas.List.{take-append-le, drop-append-le, take_all, drop_all, reverse-append, length-reverse, length-drop, reverse-reverse, take-append-drop, append_assoc, append-nil, map-append, take-map}
 use Rattle.std.specs.List.{repeat}
 use Rattle.ec_types.specs.Meaning.Memory.{repeated}
 use Rattle.ec_types.specs.Meaning.Values.{Val}
@@ -53,6 +53,17 @@ taken_last xs ys left n cut seen =
 pub left_last :
     {A : Type 0} (xs ys : List A) (left n : ℕ) → left ≡ length xs - n → ys ≡ reverse xs → reverse (take left xs) ≡ drop n ys
 left_last xs ys left n cut seen = rw (cut, seen, drop-reverse xs n) refl
+
+-- what is taken from behind, seen by f
+pub map-reverse : {A B : Type 0} (f : A → B) (xs : List A) → reverse (map f xs) ≡ map f (reverse xs)
+map-reverse f [] = refl
+map-reverse f (x ∷ xs) =
+    reverse-append (f x ∷ []) (map f xs)
+    ∙ ap (λ ys. ys ++ f x ∷ []) (map-reverse f xs)
+    ∙ sym (ap (map f) (reverse-append (x ∷ []) xs) ∙ map-append f (reverse xs) (x ∷ []))
+
+pub map-taken : {A B : Type 0} (f : A → B) (xs : List A) (n : ℕ) → map f (reverse (take n xs)) ≡ reverse (take n (map f xs))
+map-taken f xs n = sym (map-reverse f (take n xs)) ∙ ap reverse (sym (take-map f n xs))
 
 -- ---- a list several times
 

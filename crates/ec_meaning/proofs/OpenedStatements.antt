@@ -26,7 +26,7 @@ module _ (call : Caller) (n : ℕ) where
   -- ---- assignments and declarations
 
   pub assignment_opens : (a : t.Assignment) (h : Hand) → Opens call n false (Assign a) h (of_assignment a) h
-  assignment_opens (t.SetVar x e) h = simp (then_then, then_pure)
+  assignment_opens (t.SetVar at x e) h = simp (then_then, then_pure)
   assignment_opens (t.Store p e) h = simp (then_then, then_pure)
   assignment_opens (t.Copy p q) h = simp (then_then, then_pure)
 
@@ -142,8 +142,8 @@ module _ (call : Caller) (n : ℕ) where
   pub statement_opens :
       (s : t.Stmt) (h : Hand) (c : Core) (r : ℕ) →
       acts call n (Statement s) h c r ≡ spend (act_all call n (of_statement s c.births) h) c r
-  statement_opens (t.Par ss) h c r = fork_opens (branches true call true n ss h.vars) h c r
-  statement_opens (t.Forall a e b s) h c r =
+  statement_opens (t.Par at ss) h c r = fork_opens (branches true call true n ss h.vars) h c r
+  statement_opens (t.Forall at a e b s) h c r =
       let l = ForallLoop e b s in
       fork_opens (assigned true call a h.vars >>= loop call n l) h c r
       ∙ ap (λ (d : Does Hand). spend d c r) (forall_acts a l c.births h)
@@ -155,10 +155,10 @@ module _ (call : Caller) (n : ℕ) where
       plainly (t.If e s z) h c r (tick_then true _ _ ∙ simp (then_then, then_pure, if_then))
   statement_opens (t.While e s) h c r =
       plainly (t.While e s) h c r (tick_then true _ _ ∙ simp (then_then, then_pure))
-  statement_opens (t.For None e b s) h c r =
-      plainly (t.For None e b s) h c r (tick_then true _ _ ∙ simp (then_then, then_pure))
-  statement_opens (t.For (Some a) e b s) h c r =
-      plainly (t.For (Some a) e b s) h c r (tick_then true _ _ ∙ simp (then_then, then_pure))
+  statement_opens (t.For at None e b s) h c r =
+      plainly (t.For at None e b s) h c r (tick_then true _ _ ∙ simp (then_then, then_pure))
+  statement_opens (t.For at (Some a) e b s) h c r =
+      plainly (t.For at (Some a) e b s) h c r (tick_then true _ _ ∙ simp (then_then, then_pure))
   statement_opens (t.Set a) h c r =
       plainly (t.Set a) h c r (tick_then true _ _ ∙ simp (then_then, then_pure))
   statement_opens (t.Eval i) h c r =

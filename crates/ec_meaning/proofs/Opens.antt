@@ -37,8 +37,8 @@ module _ (p : Program) (n : ℕ) where
   works_open (OrElse e) h c = λ r l. at_ticks false _ _ (or_opens called n e h) c r
   works_open AsTruth h c = λ r l. refl
   works_open (ToElement at size) h c = λ r l. refl
-  works_open (ToBehind at size first length) h c = λ r l. refl
-  works_open (ToField at first length) h c = λ r l. refl
+  works_open (ToBehind at size f) h c = λ r l. refl
+  works_open (ToField at f) h c = λ r l. refl
   works_open (ToItem at) h c = λ r l. refl
   works_open Drop h c = λ r l. refl
   works_open (Assign a) h c = λ r l. at_ticks false _ _ (assignment_opens called n a h) c r

@@ -24,7 +24,8 @@ use Rattle.ec_meaning.specs.declared.memory.Spot.{Spot}
 use Rattle.ec_meaning.specs.Reached.{trapped, cells_of, cells_in, pointed, first_cell, or_bounds, spot_from, spot_in, spot, Changes, Changed}
 use Rattle.ec_meaning.specs.Kept.{Kept}
 use Rattle.ec_meaning.specs.Seen.{Untold, Tells, Performs, val, access, cells, core}
-use Rattle.ec_meaning.proofs.Blocks.{store_numbered, puts, puts_tells}
+use Rattle.ec_meaning.proofs.Blocks.{store_numbered, puts, puts_tells, paths_put}
+use Rattle.ec_meaning.proofs.Order.{InOrder-same}
 
 -- ---- tests
 
@@ -196,6 +197,7 @@ changed_kept k f old new (Ok done) ch = record {
   above = ap (drop 1) ch.puts.births;
   open_ones = λ h. ap length ch.puts.births;
   most = ch.puts.most;
+  ordered = λ o. InOrder-same old new o ch.puts.births (paths_put k ch.before ch.after old new ch.puts);
 }
 changed_kept k f old new (Err Memory) ch = tt
 changed_kept k f old new (Err (Refused x)) ch = absurd ch

@@ -1,5 +1,5 @@
 -- What works do is related where the parts of meanings are, for every relation that is closed under their words.
-use Rattle.std.proofs.Common.{refl, ℕ, ◌-◌, Bool, true, false, if◌then◌else◌, List, [], ◌∷◌, map, pos}
+use Rattle.std.proofs.Common.{refl, ℕ, true, List, [], ◌∷◌, map, pos}
 use Rattle.ec_base.specs.Format.{formatted}
 use Rattle.ec_types.specs.Meaning.Values.{Val, Num, zero_value, number, holds, binary_value}
 use Rattle.ec_types.specs.Meaning.State.{Here, Core, Does, With, ◌>>=◌, pure, Vars}
@@ -7,9 +7,10 @@ use Rattle.ec_types.specs.Meaning.Memory.{shared}
 use Rattle.ec_types.specs.Meaning.Tree.{Expr, Stmt, Else}
 use Rattle.ec_types.specs.Meaning.Evaluation.{Caller, value, branch, does, otherwise}
 use Rattle.ec_types.proofs.meaning.Growth.{grows_refl}
-use Rattle.ec_types.proofs.meaning.Steps.{Step, pure_step, give_back_step, divided_step, print_step, born_step, allocate_step, load_step, save_step, copy_step}
+use Rattle.ec_types.proofs.meaning.Steps.{Step, give_back_step, divided_step, print_step, born_step, allocate_step, load_step, save_step, copy_step}
 use Rattle.ec_types.proofs.meaning.Relations.{Relation, Each, EachCall, Steps, Binds, Catches, Ticks, Enters, Forks, Loops}
-use Rattle.ec_types.proofs.meaning.Closed.{valued, given_both, placed, invoked_both, all_valued, assigned_both, optional_both, all_declared_both, done, otherwise_done, all_done, all_branches}
+use Rattle.ec_types.proofs.meaning.Closed as closed
+use Rattle.ec_types.proofs.meaning.Closed.{either, valued, given_both, placed, invoked_both, all_valued, assigned_both, optional_both, all_declared_both, done, otherwise_done, all_done, all_branches}
 use Rattle.ec_meaning.specs.Works.{Loop, WhileLoop, ForLoop, ForallLoop, Work, Value, Constant, Reach, Arguments, Call, Operate, Combine, AndThen, OrElse, AsTruth, ToElement, ToBehind, ToField, ToItem, LoadFrom, LoadShared, Allocate, Share, SaveTo, CopyTo, SendTo, AddUp, Enter, Drop, Assign, SetTo, Declare, Statement, Statements, Branches, Branch, Decide, Turn, Again, Joined, PrintOut, GiveBack, Hand}
 use Rattle.ec_meaning.specs.Acts.{top, second, access, second_access, without, last_values, tests, repeats, loop, keeping, giving, acts, act_all}
 
@@ -21,19 +22,13 @@ module _ (R : Relation) (steps : Steps R) (binds : Binds R) (ticks : Ticks R tru
     (called : EachCall R call call') (n n' : ℕ) (catches : Catches R) (enters : Enters R true true)
     (forks : Forks R true true call call' true true n n') (loops : Loops R true true call call' true true n n') where
   stepped : {A : Type 0} {d : Does A} → ((c : Core) → Step d c) → R A d d
-  stepped {A = A} {d = d} s = steps A d s
+  stepped s = closed.stepped R steps binds s
 
   pures : {A : Type 0} (a : A) → R A (pure a) (pure a)
-  pures a = stepped (pure_step a)
+  pures a = closed.pures R steps binds a
 
   followed : {A B : Type 0} {d e : Does A} {f g : A → Does B} → R A d e → Each R A B f g → R B (d >>= f) (e >>= g)
-  followed {A = A} {B = B} {d = d} {e = e} {f = f} {g = g} h k = binds A B d e f g h k
-
-  either :
-      {A : Type 0} {d e d' e' : Does A} (b : Bool) → R A d d' → R A e e' →
-      R A (if b then d else e) (if b then d' else e')
-  either true h k = h
-  either false h k = k
+  followed h k = closed.followed R steps binds h k
 
   kept : {d e : Does Vars} (h : Hand) → R Vars d e → R Hand (keeping call n h d) (keeping call' n' h e)
   kept h r = followed r (λ vs. pures _)
@@ -86,13 +81,13 @@ module _ (R : Relation) (steps : Steps R) (binds : Binds R) (ticks : Ticks R tru
   acts_both (Operate op) h = pures _
   acts_both (Combine at op) h = given_to 2 h (stepped (divided_step at (binary_value op (second h) (top h))))
   acts_both (AndThen e) h =
-      either (holds (top h)) (given_to 1 h (followed (value_both e h.vars) (λ w. pures _))) (pures _)
+      either R steps binds (holds (top h)) (given_to 1 h (followed (value_both e h.vars) (λ w. pures _))) (pures _)
   acts_both (OrElse e) h =
-      either (holds (top h)) (pures _) (given_to 1 h (followed (value_both e h.vars) (λ w. pures _)))
+      either R steps binds (holds (top h)) (pures _) (given_to 1 h (followed (value_both e h.vars) (λ w. pures _)))
   acts_both AsTruth h = pures _
   acts_both (ToElement at size) h = pures _
-  acts_both (ToBehind at size first length) h = pures _
-  acts_both (ToField at first length) h = pures _
+  acts_both (ToBehind at size f) h = pures _
+  acts_both (ToField at f) h = pures _
   acts_both (ToItem at) h = pures _
   acts_both LoadFrom h = followed (stepped (load_step (access h))) (λ v. pures _)
   acts_both (LoadShared at) h = given_to 1 h (stepped (load_step (shared at (top h))))
@@ -118,11 +113,11 @@ module _ (R : Relation) (steps : Steps R) (binds : Binds R) (ticks : Ticks R tru
       (all_branches R steps binds true true ticks call call' called true true n n' catches enters forks loops ss h.vars)
   acts_both (Branch s) h = kept h (branch_both (does_both s h.vars) h.vars)
   acts_both (Decide s z) h =
-      either (holds (top h)) (kept (without 1 h) (does_both s h.vars))
+      either R steps binds (holds (top h)) (kept (without 1 h) (does_both s h.vars))
       (kept (without 1 h) (otherwise_both z h.vars))
   acts_both (Turn l) h = kept h (looped l h.vars)
   acts_both (Again l) h =
-      either (holds (top h)) (kept (without 1 h) (followed (repeats_both l h.vars) (looped l))) (pures _)
+      either R steps binds (holds (top h)) (kept (without 1 h) (followed (repeats_both l h.vars) (looped l))) (pures _)
   acts_both (Joined before) h = stepped (joined_step call n before h)
   acts_both (PrintOut string m) h =
       followed (stepped (print_step (formatted string (map number (last_values m h))))) (λ u. pures (without m h))

@@ -21,7 +21,7 @@ abbrev ticks_or : Bool → Option Opened → Bool
 ticks_or b None = b
 ticks_or b (Some o) = o.ticks
 
-ticks_opened : (w : Work) (h : Hand) (births : ℕ) → ticks_or (spends w) (opened w h births) ≡ spends w
+ticks_opened : (w : Work) (h : Hand) (births : ℕ) → ticks_or false (opened w h births) ≡ spends w
 ticks_opened (Value e) h births = refl
 ticks_opened (Reach q) h births = refl
 ticks_opened (Statement s) h births = refl
@@ -29,7 +29,10 @@ ticks_opened (Turn l) h births = refl
 ticks_opened w h births = refl
 
 pub spends-opened : (w : Work) (h : Hand) (births : ℕ) (o : Opened) → opened w h births ≡ Some o → spends w ≡ o.ticks
-spends-opened w h births o e = sym (ticks_opened w h births) ∙ ap (ticks_or (spends w)) e
+spends-opened w h births o e = sym (ticks_opened w h births) ∙ ap (ticks_or false) e
+
+pub spends-kept : (w : Work) (h : Hand) (births : ℕ) → opened w h births ≡ None → spends w ≡ false
+spends-kept w h births e = sym (ticks_opened w h births) ∙ ap (ticks_or false) e
 
 -- ---- works without ticks
 

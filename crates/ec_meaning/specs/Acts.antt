@@ -1,12 +1,10 @@
 -- What works do to the hand, by the meaning of the trees that they hold.
-use Rattle.std.specs.Prelude.{ℕ, ◌-◌, Bool, true, if◌then◌else◌, List, [], ◌∷◌, ◌++◌, map, reverse, take, drop, get_or, Option, Some, None, pos}
+use Rattle.std.specs.Prelude.{ℕ, ◌-◌, true, if◌then◌else◌, List, [], ◌∷◌, ◌++◌, map, reverse, take, drop, get_or, pos}
 use Rattle.ec_base.specs.Format.{formatted}
-use Rattle.ec_base.specs.declared.token.Span.{Span}
 use Rattle.ec_types.specs.Meaning.Values.{Val, Num, zero_value, number, holds, truth, unary_value, binary_value}
 use Rattle.ec_types.specs.Meaning.State as state
 use Rattle.ec_types.specs.Meaning.State.{Site, Core, Does, With, ◌>>=◌, pure, give_back, Vars, set, births_after}
 use Rattle.ec_types.specs.Meaning.Memory.{Access, load, save, copy, shared, add, allocate, born}
-use Rattle.ec_types.specs.Meaning.Tree.{Expr, Stmt, Else}
 use Rattle.ec_types.specs.Meaning.Evaluation.{Caller, divided, print, element_of, field_of, item_of, value, given, place, invoked, values, assigned, optional, all_declared, turns, branch, does, otherwise, all, branches}
 use Rattle.ec_meaning.specs.Works.{Placement, Here, OwnerOf, Home, Node, Anywhere, Loop, WhileLoop, ForLoop, ForallLoop, Work, Value, Constant, Reach, Arguments, Call, Operate, Combine, AndThen, OrElse, AsTruth, ToElement, ToBehind, ToField, ToItem, LoadFrom, LoadShared, Allocate, Share, SaveTo, CopyTo, SendTo, AddUp, Enter, Drop, Assign, SetTo, Declare, Statement, Statements, Branches, Branch, Decide, Turn, Again, Joined, PrintOut, GiveBack, Hand}
 
@@ -107,9 +105,8 @@ module _ (call : Caller) (n : ℕ) where
       else giving 1 h (value true call e h.vars >>= (λ w. pure (truth (holds w))))
   acts AsTruth h = pure (replaced 1 (truth (holds (top h))) h)
   acts (ToElement at size) h = pure (reached (element_of at size (second h) (top h)) (without 2 h))
-  acts (ToBehind at size first length) h =
-      pure (reached (field_of at first length (element_of at size (top h) zero_value)) (without 1 h))
-  acts (ToField at first length) h = pure (reached (field_of at first length (access h)) (left_behind 1 h))
+  acts (ToBehind at size f) h = pure (reached (field_of at f (element_of at size (top h) zero_value)) (without 1 h))
+  acts (ToField at f) h = pure (reached (field_of at f (access h)) (left_behind 1 h))
   acts (ToItem at) h = pure (reached (item_of at (access h) (top h)) (left_behind 1 (without 1 h)))
   acts LoadFrom h = load (access h) >>= (λ v. pure (push v (left_behind 1 h)))
   acts (LoadShared at) h = giving 1 h (load (shared at (top h)))

@@ -8,6 +8,7 @@ use Rattle.ec_meaning.specs.declared.shared_state.Core.{Core}
 use Rattle.ec_meaning.specs.declared.hand.Hand.{Hand}
 use Rattle.ec_meaning.specs.declared.work.Work.{Work}
 use Rattle.ec_meaning.specs.declared.work.Work.TheVariants as todo
+use Rattle.ec_meaning.specs.Order.{InOrder}
 use Rattle.ec_meaning.specs.Seen.{Untold, Tells, Performs, Does, core}
 
 -- a call answers what the part does, whatever the paths are that are told of the blocks
@@ -20,13 +21,14 @@ Meets f part old new result =
 abbrev pub itself : Untold → Unit {0} → Unit {0}
 itself u done = done
 
--- What is told of the blocks was so before. As many activations are open, and those above the one that runs have as
--- many births.
+-- What is told of the blocks was so before, and they stay in order. As many activations are open, and those above the one
+-- that runs have as many births.
 pub record Keeps (old new : Core) : Type 0 where
   pub tells : (u : Untold) → Tells u new → Tells u old
   pub above : drop 1 new.births ≡ drop 1 old.births
   pub open_ones : 0 < length old.births → length new.births ≡ length old.births
   pub most : new.most ≡ old.most
+  pub ordered : InOrder old → InOrder new
 
 -- unless memory was wanted
 abbrev pub Kept : {A : Type 0} → Result A (Fail Trap) → Core → Core → Type 0

@@ -1,6 +1,6 @@
 -- The start comes to the meaning, and steps that open a work, call, branch, end an activation or return come to what the
 -- state before came to.
-use Rattle.std.specs.Prelude.{◌≡◌, ℕ, suc, ◌≤◌, Bool, true, false, List, [], ◌∷◌, ◌++◌, map, slice_get, Option, Some, ℤ}
+use Rattle.std.specs.Prelude.{◌≡◌, ℕ, suc, ◌≤◌, Bool, true, false, List, [], ◌∷◌, ◌++◌, map, slice_get, Some, ℤ}
 use Rattle.ec_syntax.specs.declared.item.Program.{Program as Source}
 use Rattle.ec_types.specs.Meaning.Values.{Val, Num}
 use Rattle.ec_types.specs.Meaning.State.{Core, Here, inner, opened as opened_at, set_all, unset}

@@ -18,3 +18,9 @@ pub mod Handled
 pub mod Reached
 -- what a work leaves as it is
 pub mod Kept
+-- how activations start and end, what a step comes to, and what all steps have come to
+pub mod Activations
+pub mod Steps
+-- the start, and the answer
+pub mod Started
+pub mod Last

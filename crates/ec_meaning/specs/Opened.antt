@@ -39,27 +39,27 @@ kind t.OnAny = Anywhere
 -- ---- what stands in the place of a work
 
 abbrev pub of_value : t.Expr → Hand → List Work
-of_value (t.Number n) h = Constant (Num n) ∷ []
-of_value t.Nil h = Constant Null ∷ []
-of_value (t.Var x) h = Constant (h.vars x) ∷ []
-of_value (t.Unary op a) h = Value a ∷ Operate op ∷ []
+of_value (t.Number at n) h = Constant (Num n) ∷ []
+of_value (t.Nil at) h = Constant Null ∷ []
+of_value (t.Var at x) h = Constant (h.vars x) ∷ []
+of_value (t.Unary at op a) h = Value a ∷ Operate op ∷ []
 of_value (t.Binary at op a b) h = Value a ∷ Value b ∷ Combine at op ∷ []
-of_value (t.And a b) h = Value a ∷ AndThen b ∷ []
-of_value (t.Or a b) h = Value a ∷ OrElse b ∷ []
-of_value (t.Load p) h = Reach p ∷ LoadFrom ∷ []
+of_value (t.And at a b) h = Value a ∷ AndThen b ∷ []
+of_value (t.Or at a b) h = Value a ∷ OrElse b ∷ []
+of_value (t.Load pointer p) h = Reach p ∷ LoadFrom ∷ []
 of_value (t.Called i) h = Call i ∷ []
-of_value (t.New at element n) h = part (Num (pos 1)) n ∷ Allocate at element ∷ []
+of_value (t.New at shape element n) h = part (Num (pos 1)) n ∷ Allocate at element ∷ []
 of_value (t.ValueOf at a) h = Value a ∷ LoadShared at ∷ []
 
 -- an access spends the ticks of its nodes itself
 abbrev pub value_ticks : t.Expr → Bool
-value_ticks (t.Load p) = false
+value_ticks (t.Load pointer p) = false
 value_ticks e = true
 
 abbrev pub of_place : t.Place → List Work
 of_place (t.Element at size base index) = Value base ∷ part zero_value index ∷ ToElement at size ∷ []
-of_place (t.Behind at size first length base) = Value base ∷ ToBehind at size first length ∷ []
-of_place (t.Field at first length p) = Reach p ∷ ToField at first length ∷ []
+of_place (t.Behind at size f base) = Value base ∷ ToBehind at size f ∷ []
+of_place (t.Field at f p) = Reach p ∷ ToField at f ∷ []
 of_place (t.Item at p index) = Reach p ∷ Value index ∷ ToItem at ∷ []
 
 abbrev pub of_arguments : t.Exprs → List Work
@@ -67,14 +67,14 @@ of_arguments t.Last = []
 of_arguments (t.Arg e es) = Value e ∷ Arguments es ∷ []
 
 abbrev pub of_call : t.Invocation → List Work
-of_call (t.Invoke f es t.OnThis) = Arguments es ∷ Enter Here f (count es) ∷ []
-of_call (t.Invoke f es (t.OnOwner e)) = Arguments es ∷ Value e ∷ Enter OwnerOf f (count es) ∷ []
-of_call (t.Invoke f es t.OnHome) = Arguments es ∷ Enter Home f (count es) ∷ []
-of_call (t.Invoke f es (t.OnNode e)) = Arguments es ∷ Value e ∷ Enter Node f (count es) ∷ []
-of_call (t.Invoke f es t.OnAny) = Arguments es ∷ Enter Anywhere f (count es) ∷ []
+of_call (t.Invoke at f es t.OnThis) = Arguments es ∷ Enter Here f (count es) ∷ []
+of_call (t.Invoke at f es (t.OnOwner e)) = Arguments es ∷ Value e ∷ Enter OwnerOf f (count es) ∷ []
+of_call (t.Invoke at f es t.OnHome) = Arguments es ∷ Enter Home f (count es) ∷ []
+of_call (t.Invoke at f es (t.OnNode e)) = Arguments es ∷ Value e ∷ Enter Node f (count es) ∷ []
+of_call (t.Invoke at f es t.OnAny) = Arguments es ∷ Enter Anywhere f (count es) ∷ []
 
 abbrev pub of_assignment : t.Assignment → List Work
-of_assignment (t.SetVar x e) = Value e ∷ SetTo x ∷ []
+of_assignment (t.SetVar at x e) = Value e ∷ SetTo x ∷ []
 of_assignment (t.Store p e) = Reach p ∷ Value e ∷ SaveTo ∷ []
 of_assignment (t.Copy p q) = Reach p ∷ Reach q ∷ CopyTo ∷ []
 
@@ -87,15 +87,15 @@ of_declarations (t.Shared x ∷ ds) = Share ∷ SetTo x ∷ Declare ds ∷ []
 abbrev pub of_statement : t.Stmt → ℕ → List Work
 of_statement t.Skip births = []
 of_statement (t.Block ds ss) births = Declare ds ∷ Statements ss ∷ []
-of_statement (t.Par ss) births = Branches ss ∷ Joined births ∷ []
+of_statement (t.Par at ss) births = Branches ss ∷ Joined births ∷ []
 of_statement (t.If e s z) births = Value e ∷ Decide s z ∷ []
 of_statement (t.While e s) births = Turn (WhileLoop e s) ∷ []
-of_statement (t.For a e b s) births = first a
+of_statement (t.For at a e b s) births = first a
   where
     first : Option t.Assignment → List Work
     first None = Turn (ForLoop e b s) ∷ []
     first (Some x) = Assign x ∷ Turn (ForLoop e b s) ∷ []
-of_statement (t.Forall a e b s) births = Assign a ∷ Turn (ForallLoop e b s) ∷ Joined births ∷ []
+of_statement (t.Forall at a e b s) births = Assign a ∷ Turn (ForallLoop e b s) ∷ Joined births ∷ []
 of_statement (t.Set a) births = Assign a ∷ []
 of_statement (t.Eval i) births = Call i ∷ Drop ∷ []
 of_statement (t.WriteTo at p e) births = Value p ∷ Value e ∷ SendTo at ∷ []
@@ -158,9 +158,9 @@ opened (OrElse e) h births =
     freely (if holds (top h) then Constant (Num (pos 1)) ∷ [] else Value e ∷ AsTruth ∷ []) (without 1 h)
 opened AsTruth h births = freely [] (replaced 1 (truth (holds (top h))) h)
 opened (ToElement at size) h births = freely [] (reached (element_of at size (second h) (top h)) (without 2 h))
-opened (ToBehind at size first length) h births =
-    freely [] (reached (field_of at first length (element_of at size (top h) zero_value)) (without 1 h))
-opened (ToField at first length) h births = freely [] (reached (field_of at first length (access h)) (left_behind 1 h))
+opened (ToBehind at size f) h births =
+    freely [] (reached (field_of at f (element_of at size (top h) zero_value)) (without 1 h))
+opened (ToField at f) h births = freely [] (reached (field_of at f (access h)) (left_behind 1 h))
 opened (ToItem at) h births = freely [] (reached (item_of at (access h) (top h)) (left_behind 1 (without 1 h)))
 opened Drop h births = freely [] (without 1 h)
 opened (Assign a) h births = freely (of_assignment a) h

@@ -20,7 +20,14 @@ trapped kind at = Refused (record { kind = kind; at = at })
 
 -- the access to a shared variable
 abbrev pub shared : Span → Value → Access
-shared at v = record { at = at; base = v; index = pos 0; size = 1; field = record { first = 0; length = 1 }; item = pos 0 }
+shared at v = record {
+  at = at;
+  base = v;
+  index = pos 0;
+  size = 1;
+  field = record { number = 0; first = 0; length = 1 };
+  item = pos 0;
+}
 
 -- what stands for an access that is missing
 abbrev pub no_access : Access

@@ -1,5 +1,5 @@
 -- The evaluator's values, works and state as those of the definitions: block numbers stand for birth paths.
-use Rattle.std.specs.Prelude.{◌≡◌, ℕ, Bool, List, [], ◌∷◌, ◌++◌, map, reverse, drop, find, get_or, slice_get, Option, Some, None, option_map, Ok, Err, Result}
+use Rattle.std.specs.Prelude.{◌≡◌, ℕ, List, ◌++◌, map, reverse, drop, find, get_or, slice_get, Option, Some, None, option_map, Ok, Err, Result}
 use Rattle.ec_base.specs.Words.{same}
 use Rattle.ec_base.specs.declared.fail.Fail.{Fail}
 use Rattle.ec_base.specs.declared.fail.Fail.TheVariants.{Memory, Refused}
@@ -83,8 +83,8 @@ module _ (u : Untold) where
   work (todo.OrElse e) = w.OrElse (erased.expression e.now)
   work todo.AsTruth = w.AsTruth
   work (todo.ToElement at size) = w.ToElement at size
-  work (todo.ToBehind at size f) = w.ToBehind at size f.first f.length
-  work (todo.ToField at f) = w.ToField at f.first f.length
+  work (todo.ToBehind at size f) = w.ToBehind at size (erased.field f)
+  work (todo.ToField at f) = w.ToField at (erased.field f)
   work (todo.ToItem at) = w.ToItem at
   work todo.LoadFrom = w.LoadFrom
   work (todo.LoadShared at) = w.LoadShared at

@@ -6,7 +6,7 @@ use Rattle.ec_base.specs.declared.token.Span.{Span}
 use Rattle.ec_types.specs.Meaning.Values.{Val}
 use Rattle.ec_types.specs.Meaning.State.{Vars}
 use Rattle.ec_types.specs.Meaning.Memory.{Access}
-use Rattle.ec_types.specs.Meaning.Tree.{Expr, Exprs, Part, Place, Invocation, Assignment, Decl, Stmt, Stmts, Else}
+use Rattle.ec_types.specs.Meaning.Tree.{FieldAt, Expr, Exprs, Part, Place, Invocation, Assignment, Decl, Stmt, Stmts, Else}
 
 -- the kinds of placements
 pub data Placement : Type 0 where
@@ -37,8 +37,8 @@ pub data Work : Type 0 where
   AsTruth : Work
   -- values become accesses
   ToElement : Span → ℕ → Work
-  ToBehind : Span → ℕ → ℕ → ℕ → Work
-  ToField : Span → ℕ → ℕ → Work
+  ToBehind : Span → ℕ → FieldAt → Work
+  ToField : Span → FieldAt → Work
   ToItem : Span → Work
   -- memory
   LoadFrom : Work

@@ -1,5 +1,6 @@
 //! Accesses from values.
 ghost use Rattle.std.specs.Prelude.{◌≡◌};
+ghost use Rattle.ec_resolve.specs.Erased as erased;
 ghost use Rattle.ec_types.specs.Meaning.Evaluation.{element_of, field_of, item_of};
 ghost use Rattle.ec_types.specs.Meaning.Memory.{shared};
 ghost use Rattle.ec_meaning.specs.Seen as seen;
@@ -11,6 +12,7 @@ use ec_resolve::Extent;
 
 /// What is no array field: one cell.
 const ONE_CELL: Extent = Extent {
+    number: 0,
     first: 0,
     length: 1,
 };
@@ -32,7 +34,7 @@ impl Access {
 
     /// A field of this element.
     pub(crate) fn field(self, at: Span, field: Extent) -> Access
-        ensures { (u : Untold) → seen.access u result ≡ field_of at field.first field.length (seen.access u self) }
+        ensures { (u : Untold) → seen.access u result ≡ field_of at (erased.field field) (seen.access u self) }
     {
         Access { at, field, ..self }
     }

@@ -18,12 +18,12 @@ fn is_plain(e: &Term) -> bool
     ensures { result ≡ branches.is_plain (erased.expression e.now) }
 {
     match e {
-        Term::Number(_) | Term::Nil | Term::Var(_) => true,
-        Term::Unary(_, operand) => is_plain(operand.get()),
+        Term::Number(_, _) | Term::Nil(_) | Term::Var(_, _) => true,
+        Term::Unary(_, _, operand) => is_plain(operand.get()),
         Term::Binary(_, _, left, right) => is_plain(left.get()) && is_plain(right.get()),
-        Term::And(left, right) => is_plain(left.get()) && is_plain(right.get()),
-        Term::Or(left, right) => is_plain(left.get()) && is_plain(right.get()),
-        Term::Load(_) | Term::Call(_) | Term::New(_) | Term::ValueOf(_, _) => false,
+        Term::And(_, left, right) => is_plain(left.get()) && is_plain(right.get()),
+        Term::Or(_, left, right) => is_plain(left.get()) && is_plain(right.get()),
+        Term::Load(_, _) | Term::Call(_) | Term::New(_) | Term::ValueOf(_, _) => false,
     }
 }
 
@@ -69,7 +69,7 @@ fn is_call_branch(s: &Action) -> bool
     match s {
         Action::Eval(call) => is_plain_call(call.get()),
         Action::Set(a) => match a.get() {
-            Assignment::SetVar(_, e) => is_call(e),
+            Assignment::SetVar(_, _, e) => is_call(e),
             Assignment::Store(_, _) | Assignment::Copy(_, _) => false,
         },
         _ => false,

@@ -1,9 +1,10 @@
-//! What typed programs mean, step by step, as a machine takes it that keeps what is still to do on a list and the activations
-//! that wait on another, so that it needs no recursion. `specs/Laws.antt` says what its steps keep. The private modules are
-//! the parts of an evaluator that takes these steps; no public call joins them yet.
+//! What typed programs mean, evaluated from left to right: a machine takes works one by one from a list, and the activations
+//! that wait stand on another, so that neither deep calls nor deep trees need the processor's stack. `means` is the call;
+//! `specs/Laws.antt` says what the machine's steps keep.
 #![tactic(auto)]
 
 mod accesses;
+mod activation;
 mod allocation;
 mod branches;
 mod combining;
@@ -11,6 +12,9 @@ mod copying;
 mod hand;
 mod holding;
 mod laws;
+mod machine;
+mod meaning;
+mod meant;
 mod memory;
 mod opening;
 mod operating;
@@ -25,3 +29,5 @@ mod value;
 mod work;
 
 pub use laws::steps_keep_meanings;
+pub use meaning::means;
+pub use meant::{Meant, MeantEnd};

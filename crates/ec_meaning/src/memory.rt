@@ -35,6 +35,7 @@ pub(crate) fn shared(at: Span, pointer: Value) -> Access
         index: 0,
         size: 1,
         field: Extent {
+            number: 0,
             first: 0,
             length: 1,
         },

@@ -15,7 +15,7 @@ fn value_spends(e: &Term) -> bool
     ensures { result ≡ value_ticks (erased.expression e.now) }
 {
     match e {
-        Term::Load(_) => false,
+        Term::Load(_, _) => false,
         _ => true,
     }
 }

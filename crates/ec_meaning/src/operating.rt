@@ -58,7 +58,7 @@ impl Hand {
     }
 
     pub(crate) fn to_behind(&mut self, at: Span, size: u32, field: Extent) -> Result<(), AllocError>
-        ensures { OnOk result (Becomes (λ u h. reached (field_of at field.first field.length (element_of at size (top h) zero_value)) (without 1 h)) self.old self.new) }
+        ensures { OnOk result (Becomes (λ u h. reached (field_of at (erased.field field) (element_of at size (top h) zero_value)) (without 1 h)) self.old self.new) }
     {
         let base = self.pop();
         let element = Access::element(at, size, base, Value::Int(0));
@@ -66,7 +66,7 @@ impl Hand {
     }
 
     pub(crate) fn to_field(&mut self, at: Span, field: Extent) -> Result<(), AllocError>
-        ensures { OnOk result (Becomes (λ u h. reached (field_of at field.first field.length (acts.access h)) (left_behind 1 h)) self.old self.new) }
+        ensures { OnOk result (Becomes (λ u h. reached (field_of at (erased.field field) (acts.access h)) (left_behind 1 h)) self.old self.new) }
     {
         let element = self.pop_access();
         self.reach(element.field(at, field))

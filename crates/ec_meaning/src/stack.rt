@@ -1,5 +1,5 @@
 //! Stacks.
-ghost use Rattle.std.specs.Prelude.{◌≡◌, [], ◌∷◌, take, drop, reverse, IfOk, OnOk, MatchOption};
+ghost use Rattle.std.specs.Prelude.{◌≡◌, slice_get, length, option_copied, [], ◌∷◌, take, drop, reverse, IfOk, OnOk, MatchOption};
 
 use std::alloc::{AllocError, Global};
 use std::marker::Model;
@@ -51,6 +51,19 @@ impl<T: Drop> Stack<T> {
     {
         self.push(third)?;
         self.push_two(first, second)
+    }
+
+    /// The last item.
+    pub(crate) fn top(&self) -> Option<&T>
+        ensures { option_copied result ≡ slice_get self.now 0 }
+    {
+        self.items.last()
+    }
+
+    pub(crate) fn len(&self) -> usize
+        ensures { result ≡ length self.now }
+    {
+        self.items.len()
     }
 
     pub(crate) fn pop(&mut self) -> Option<T>

@@ -56,7 +56,7 @@ impl<'a> Frame<'a> {
                 let statements = Work::Statements(block.actions.as_slice());
                 works.push_two(Work::Declare(block.decls.as_slice()), statements)
             }
-            Action::Par(branches) => {
+            Action::Par(_, branches) => {
                 works.push_two(Work::Branches(branches.as_slice()), Work::Joined(births))
             }
             Action::If(e, chosen, otherwise) => {
@@ -64,14 +64,14 @@ impl<'a> Frame<'a> {
                 works.push_two(valued(e), decide)
             }
             Action::While(e, body) => works.push(Work::Turn(Loop::While(e.get(), body.get()))),
-            Action::For(header, body) => {
+            Action::For(_, header, body) => {
                 let turn = Work::Turn(Loop::For(header.get(), body.get()));
                 match &header.get().first {
                     Some(first) => works.push_two(Work::Assign(first.get()), turn),
                     None => works.push(turn),
                 }
             }
-            Action::Forall(header, body) => {
+            Action::Forall(_, header, body) => {
                 let turn = Work::Turn(Loop::Forall(header.get(), body.get()));
                 let first = Work::Assign(header.get().first.get());
                 works.push_three(first, turn, Work::Joined(births))

@@ -46,18 +46,18 @@ impl<'a> Frame<'a> {
     {
         let works = &mut self.works;
         match e {
-            Term::Number(number) => works.push(Work::Constant(Value::Int(*number))),
-            Term::Nil => works.push(Work::Constant(Value::Null)),
-            Term::Var(number) => works.push(Work::Constant(self.hand.variable(*number))),
-            Term::Unary(op, operand) => works.push_two(valued(operand), Work::Operate(*op)),
+            Term::Number(_, number) => works.push(Work::Constant(Value::Int(*number))),
+            Term::Nil(_) => works.push(Work::Constant(Value::Null)),
+            Term::Var(_, number) => works.push(Work::Constant(self.hand.variable(*number))),
+            Term::Unary(_, op, operand) => works.push_two(valued(operand), Work::Operate(*op)),
             Term::Binary(at, op, left, right) => works.push_three(
                 valued(left),
                 valued(right),
                 Work::Combine(*at, *op),
             ),
-            Term::And(left, right) => works.push_two(valued(left), Work::AndThen(right.get())),
-            Term::Or(left, right) => works.push_two(valued(left), Work::OrElse(right.get())),
-            Term::Load(place) => works.push_two(Work::Reach(place), Work::LoadFrom),
+            Term::And(_, left, right) => works.push_two(valued(left), Work::AndThen(right.get())),
+            Term::Or(_, left, right) => works.push_two(valued(left), Work::OrElse(right.get())),
+            Term::Load(_, place) => works.push_two(Work::Reach(place), Work::LoadFrom),
             Term::Call(call) => works.push(Work::Call(call)),
             Term::New(fresh) => works.push_two(
                 part(Value::Int(1), &fresh.count),
@@ -134,7 +134,7 @@ impl<'a> Frame<'a> {
     {
         let works = &mut self.works;
         match a {
-            Assignment::SetVar(number, e) => {
+            Assignment::SetVar(_, number, e) => {
                 works.push_two(Work::Value(e), Work::SetTo(*number))
             }
             Assignment::Store(place, e) => {

@@ -1,4 +1,8 @@
 //! What is still to do in an activation.
+ghost use Rattle.std.specs.Prelude.{◌≡◌, if◌then◌else◌};
+ghost use Rattle.ec_meaning.specs.Acts.{operands};
+ghost use Rattle.ec_meaning.specs.Seen.{Untold, placement};
+
 use crate::value::Value;
 use ec_base::{BinOp, Span, Text, UnOp};
 use ec_resolve::{
@@ -13,6 +17,18 @@ pub(crate) enum Placement {
     Home,
     Node,
     Anywhere,
+}
+
+impl Placement {
+    /// Whether a value says where.
+    pub(crate) fn has_operand(self) -> bool
+        ensures { (u : Untold) → operands (placement u self) ≡ (if result then 1 else 0) }
+    {
+        match self {
+            Placement::OwnerOf | Placement::Node => true,
+            Placement::Here | Placement::Home | Placement::Anywhere => false,
+        }
+    }
 }
 
 /// What a loop tests and repeats.
