@@ -1,5 +1,5 @@
 -- the words, and the text of a file
-pub mod TwoWords
+pub mod Words
 pub mod LongTexts
 -- a source has one refusal
 pub mod Unique
@@ -12,3 +12,4 @@ pub mod Keeping
 -- how a command ends, and what is written of it
 pub mod Delivery
 pub mod Endings
+pub mod Answered

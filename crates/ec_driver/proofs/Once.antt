@@ -102,4 +102,5 @@ refused_once laws = record {
   checks = checks_refuse_once laws;
   checked = checked_is_right laws;
   program = no_misfit laws.one laws.excluded;
+  typed = is_typed laws;
 }

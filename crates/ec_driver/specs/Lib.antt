@@ -7,7 +7,9 @@ pub mod Source
 pub mod Once
 pub mod Ending
 pub mod Kept
+pub mod Meant
 pub mod Task
 -- what the functions inside the crate promise each other
 pub mod Load
+pub mod Answered
 pub mod Drive

@@ -5,13 +5,16 @@ use Rattle.ec_base.specs.declared.limits.TheConstants.{MAX_SOURCE}
 use Rattle.ec_base.specs.declared.reason.Reason.{Reason}
 use Rattle.ec_base.specs.declared.reason.Reason.TheVariants.{NotYet, TooLong}
 use Rattle.ec_base.specs.declared.token.Span.{Span}
+use Rattle.ec_base.specs.declared.trap.Trap.{Trap}
+use Rattle.ec_base.specs.declared.trap.TrapKind.{TrapKind}
+use Rattle.ec_base.specs.declared.trap.TrapKind.TheVariants.{Null, Bounds, DivZero, BadSize}
 use Rattle.ec_base.specs.Reason.{name_numbered, number_of}
 use Rattle.ec_lex.specs.declared.refusal.LexRefusal.{LexRefusal}
 use Rattle.ec_reader.specs.declared.refusal.ReadRefusal.{ReadRefusal}
 use Rattle.ec_types.specs.declared.refusal.TypeRefusal.{TypeRefusal}
 use Rattle.ec_driver.specs.declared.status.Refusal.{Refusal}
 use Rattle.ec_driver.specs.declared.status.Status.{Status}
-use Rattle.ec_driver.specs.declared.status.Status.TheVariants.{Done, WordsRefused, SourceRefused, StepsSpent, ReadFault, WriteFault, NoMemory}
+use Rattle.ec_driver.specs.declared.status.Status.TheVariants.{Done, WordsRefused, SourceRefused, Trapped, StepsSpent, ReadFault, WriteFault, NoMemory, TooDeep}
 
 -- a place: two offsets
 abbrev pub place : Span → List ℕ
@@ -44,12 +47,23 @@ abbrev pub refusal_line : Refusal → List ℕ
 refusal_line r =
     codes "refused " ++ decimal r.what ++ codes " at " ++ place r.at ++ codes " " ++ name_numbered r.what ++ codes "\n"
 
+abbrev pub trap_name : TrapKind → List ℕ
+trap_name Null = codes "Null"
+trap_name Bounds = codes "Bounds"
+trap_name DivZero = codes "DivZero"
+trap_name BadSize = codes "BadSize"
+
+abbrev pub trap_line : Trap → List ℕ
+trap_line t = codes "trap " ++ trap_name t.kind ++ codes " at " ++ place t.at ++ codes "\n"
+
 -- the line for the error stream, where a run that has ended has this result
 abbrev pub line_of : Status → ℤ → List ℕ
 line_of Done n = result_line n
 line_of WordsRefused n = codes "words refused\n"
 line_of (SourceRefused r) n = refusal_line r
+line_of (Trapped t) n = trap_line t
 line_of StepsSpent n = codes "steps spent\n"
 line_of ReadFault n = codes "read fault\n"
 line_of WriteFault n = []
 line_of NoMemory n = codes "no memory\n"
+line_of TooDeep n = codes "too deep\n"

@@ -9,7 +9,7 @@ use Rattle.ec_driver.specs.declared.command.RunWords.{RunWords}
 use Rattle.ec_driver.specs.declared.status.Refusal.{Refusal}
 use Rattle.ec_driver.specs.declared.status.Report.{Report}
 use Rattle.ec_driver.specs.declared.status.Status.{Status}
-use Rattle.ec_driver.specs.declared.status.Status.TheVariants.{Done, WordsRefused, SourceRefused, StepsSpent, ReadFault, WriteFault, NoMemory}
+use Rattle.ec_driver.specs.declared.status.Status.TheVariants.{Done, WordsRefused, SourceRefused, Trapped, StepsSpent, ReadFault, WriteFault, NoMemory, TooDeep}
 use Rattle.ec_driver.specs.Ending.{Ending, IsShown, stop}
 use Rattle.ec_driver.specs.Kept.{Runs}
 use Rattle.ec_driver.specs.Source.{Accepts}
@@ -36,8 +36,10 @@ Unread rejects told ReadFault = Unit {0}
 Unread rejects told NoMemory = Unit {0}
 Unread rejects told Done = ⊥
 Unread rejects told WordsRefused = ⊥
+Unread rejects told (Trapped t) = ⊥
 Unread rejects told StepsSpent = ⊥
 Unread rejects told WriteFault = ⊥
+Unread rejects told TooDeep = ⊥
 
 -- a report of one of these endings, or of want of memory
 abbrev pub EndsBy : (Ending → Type 0) → Report → SeenSink → SeenSink → SeenSink → SeenSink → Type 0

@@ -4,7 +4,7 @@ use Rattle.ec_base.specs.declared.token.Token.{Token}
 use Rattle.ec_small.specs.declared.tree.Program.{Program}
 use Rattle.ec_syntax.specs.declared.item.Program.{Program as Tree}
 use Rattle.ec_driver.specs.declared.status.Refusal.{Refusal}
-use Rattle.ec_driver.specs.Source.{Accepts, IsChecked, IsSource, Misfits, Rejects, Unchecked}
+use Rattle.ec_driver.specs.Source.{Accepts, IsChecked, IsSource, IsTypedSource, Misfits, Rejects, Unchecked, Untyped}
 
 abbrev pub SourcesAreRefusedOnce : Type 0
 SourcesAreRefusedOnce = (bytes : List ℕ) (r s : Refusal) → Rejects bytes r → Rejects bytes s → r ≡ s
@@ -22,6 +22,10 @@ abbrev pub ProgramIsNoMisfit : Type 0
 ProgramIsNoMisfit =
     (bytes : List ℕ) (tokens : List Token) (tree : Tree) (r : Refusal) → IsSource bytes tokens tree → Misfits bytes r → ⊥
 
+abbrev pub TypedIsNotRefused : Type 0
+TypedIsNotRefused =
+    (bytes : List ℕ) (tokens : List Token) (tree : Tree) (r : Refusal) → IsTypedSource bytes tokens tree → Untyped bytes r → ⊥
+
 -- all of them
 pub record AreRefusedOnce : Type 0 where
   pub runs : SourcesAreRefusedOnce
@@ -29,3 +33,4 @@ pub record AreRefusedOnce : Type 0 where
   pub checks : ChecksRefuseOnce
   pub checked : CheckedIsNotRefused
   pub program : ProgramIsNoMisfit
+  pub typed : TypedIsNotRefused

@@ -128,6 +128,13 @@ Rejects bytes r = Untyped bytes r ⊎ Stops bytes r
 abbrev pub IsSmall : List ℕ → Type 0
 IsSmall bytes = (p : Program) × Accepts bytes p
 
+-- the bytes are a typed program of the whole language, with this tree
+abbrev pub HasTree : List ℕ → Tree → Type 0
+HasTree bytes tree = (tokens : List Token) × IsTypedSource bytes tokens tree
+
+abbrev pub IsTypedText : List ℕ → Type 0
+IsTypedText bytes = (tree : Tree) × HasTree bytes tree
+
 -- the bytes are a program of the whole language, and this is its canonical text
 abbrev pub Prints : List ℕ → List ℕ → Type 0
 Prints bytes text = (tokens : List Token) × (tree : Tree) × IsSource bytes tokens tree × (text ≡ canonical tree)

@@ -3,16 +3,17 @@ use Rattle.std.specs.Prelude.{◌≡◌, ◌⊎◌, ℕ, List, [], ◌∷◌, co
 use Rattle.ec_edge.specs.Shelf.{SeenShelf, Told, holds, missing, untold}
 use Rattle.ec_edge.specs.Sink.{SeenSink}
 use Rattle.ec_driver.specs.declared.command.Command.{Command}
-use Rattle.ec_driver.specs.declared.command.Command.TheVariants.{Check, Print, Run}
+use Rattle.ec_driver.specs.declared.command.Command.TheVariants.{Check, Print, Means, Run}
 use Rattle.ec_driver.specs.declared.command.WordsRefusal.{WordsRefusal}
 use Rattle.ec_driver.specs.declared.status.Refusal.{Refusal}
 use Rattle.ec_driver.specs.declared.status.Report.{Report}
 use Rattle.ec_driver.specs.declared.status.Status.{Status}
-use Rattle.ec_driver.specs.declared.status.Status.TheVariants.{Done, WordsRefused, SourceRefused, StepsSpent, ReadFault, WriteFault, NoMemory}
+use Rattle.ec_driver.specs.declared.status.Status.TheVariants.{Done, WordsRefused, SourceRefused, Trapped, StepsSpent, ReadFault, WriteFault, NoMemory, TooDeep}
 use Rattle.ec_driver.specs.Command.{told_command}
 use Rattle.ec_driver.specs.Ending.{Ending, IsShown, shown, stop}
 use Rattle.ec_driver.specs.Kept.{Runs}
-use Rattle.ec_driver.specs.Source.{IsChecked, IsProgram, IsSmall, Misfits, Prints, Rejects, Unchecked}
+use Rattle.ec_driver.specs.Meant.{MeansSo}
+use Rattle.ec_driver.specs.Source.{IsChecked, IsProgram, IsSmall, IsTypedText, Misfits, Prints, Rejects, Unchecked, Untyped}
 use Rattle.ec_driver.specs.Status.{IsOfOrFails, IsOrFails, done}
 
 -- ---- the table
@@ -37,10 +38,12 @@ abbrev pub IsRefusal : (Refusal → Type 0) → Status → Type 0
 IsRefusal rejects Done = ⊥
 IsRefusal rejects WordsRefused = ⊥
 IsRefusal rejects (SourceRefused r) = rejects r
+IsRefusal rejects (Trapped t) = ⊥
 IsRefusal rejects StepsSpent = ⊥
 IsRefusal rejects ReadFault = ⊥
 IsRefusal rejects WriteFault = ⊥
 IsRefusal rejects NoMemory = ⊥
+IsRefusal rejects TooDeep = ⊥
 
 -- the task of a command that reads one source and changes no file
 abbrev pub of_source : List ℕ → (List ℕ → Refusal → Type 0) → (List ℕ → Type 0) → (List ℕ → Ending → Type 0) → Task
@@ -62,6 +65,7 @@ Shows text e = (canon : List ℕ) × Prints text canon × (e ≡ shown canon)
 abbrev pub task : Command → Task
 task (Check file) = of_source file Unchecked IsChecked Checks
 task (Print file) = of_source file Misfits IsProgram Shows
+task (Means file args) = of_source file Untyped IsTypedText (MeansSo args)
 task (Run r) = of_source r.file Rejects IsSmall (Runs r)
 
 -- ---- texts of files

@@ -1,9 +1,10 @@
 //! Command words.
 ghost use Rattle.std.specs.Prelude.{◌≡◌, IfOk};
 ghost use Rattle.ec_base.specs.Answers.{Answers};
-ghost use Rattle.ec_driver.specs.Command.{is_file, is_option, is_threaded, run_of, told_command, told_pair};
+ghost use Rattle.ec_driver.specs.Command.{is_file, is_option, is_threaded, run_of, told_command, told_name, numbers, alone};
 
-use ec_base::{Fail, List, MAX_STEPS, Text};
+use ec_base::{Fail, List, MAX_PARAMETERS, MAX_STEPS, Text};
+use ec_lex::number_value;
 use std::alloc::{AllocError, Global};
 
 /// A command that the words give.
@@ -13,6 +14,8 @@ pub enum Command {
     Check(Text),
     /// Writes the canonical text of this file.
     Print(Text),
+    /// What the program of this file means with these arguments.
+    Means(Text, List<i64>),
     Run(RunWords),
 }
 
@@ -22,7 +25,7 @@ impl Command {
         ensures { result ≡ is_threaded self.now }
     {
         match self {
-            Command::Check(_) | Command::Print(_) => false,
+            Command::Check(_) | Command::Print(_) | Command::Means(_, _) => false,
             Command::Run(_) => true,
         }
     }
@@ -60,33 +63,67 @@ fn is_file(word: &Text) -> bool
 }
 
 /// The command of these words.
-#[tactic(auto, using(crate::proofs::TwoWords::told_two))]
 pub(crate) fn read_words(alloc: Global, words: &[Text]) -> Result<Command, Fail<WordsRefusal>>
     ensures { Answers result (told_command words.now) }
 {
-    match words {
-        [name, file] => read_pair(alloc, name, file),
-        _ => Err(Fail::Refused(WordsRefusal)),
-    }
-}
-
-/// The command of two words.
-fn read_pair(alloc: Global, name: &Text, file: &Text) -> Result<Command, Fail<WordsRefusal>>
-    ensures { Answers result (told_pair name.now file.now) }
-{
+    let Some((name, rest)) = words.split_first() else {
+        return Err(Fail::Refused(WordsRefusal));
+    };
+    let Some((file, others)) = rest.split_first() else {
+        return Err(Fail::Refused(WordsRefusal));
+    };
     if !is_file(file) {
         return Err(Fail::Refused(WordsRefusal));
     }
+    read_name(alloc, name, file, others)
+}
+
+/// The command of this name for a file, with the words behind it.
+fn read_name(
+    alloc: Global,
+    name: &Text,
+    file: &Text,
+    others: &[Text],
+) -> Result<Command, Fail<WordsRefusal>>
+    ensures { Answers result (told_name name.now file.now others.now) }
+{
     let name = name.as_slice();
     if name == b"check".as_slice() {
-        Ok(Command::Check(file.copy(alloc)?))
+        alone(others, Command::Check(file.copy(alloc)?))
     } else if name == b"print".as_slice() {
-        Ok(Command::Print(file.copy(alloc)?))
+        alone(others, Command::Print(file.copy(alloc)?))
     } else if name == b"run".as_slice() {
-        Ok(Command::Run(run_of(alloc, file)?))
+        alone(others, Command::Run(run_of(alloc, file)?))
+    } else if name == b"means".as_slice() && others.len() <= MAX_PARAMETERS as usize {
+        Ok(Command::Means(file.copy(alloc)?, read_numbers(alloc, others)?))
     } else {
         Err(Fail::Refused(WordsRefusal))
     }
+}
+
+/// A command that takes no more words.
+fn alone(others: &[Text], command: Command) -> Result<Command, Fail<WordsRefusal>>
+    ensures { Answers result (alone others.now command) }
+{
+    if others.is_empty() {
+        Ok(command)
+    } else {
+        Err(Fail::Refused(WordsRefusal))
+    }
+}
+
+/// The arguments of main: decimals.
+fn read_numbers(alloc: Global, words: &[Text]) -> Result<List<i64>, Fail<WordsRefusal>>
+    ensures { Answers result (numbers words.now) }
+{
+    let mut numbers = List::new(alloc);
+    for word in words {
+        match number_value(word.as_slice()) {
+            Some(number) => numbers.push(number)?,
+            None => return Err(Fail::Refused(WordsRefusal)),
+        }
+    }
+    Ok(numbers)
 }
 
 /// The words of `run` with all that they leave out.

@@ -7,6 +7,7 @@ mod command;
 mod drive;
 mod laws;
 mod line;
+mod meaning;
 mod run;
 mod say;
 mod source;

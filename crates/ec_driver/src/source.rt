@@ -6,7 +6,7 @@ ghost use Rattle.ec_small.specs.Grammar.{Reads};
 ghost use Rattle.ec_small.specs.Sound.{Sound};
 ghost use Rattle.ec_driver.specs.Load.{Fails, OfText, Unread, status_of};
 ghost use Rattle.ec_driver.specs.Source.{Accepts, IsChecked, IsSource, IsTypedSource, Lexes, Misfits, Prints};
-ghost use Rattle.ec_driver.specs.Source.{Rejects, StopsAt, Unchecked, Untyped};
+ghost use Rattle.ec_driver.specs.Source.{HasTree, Rejects, StopsAt, Unchecked, Untyped};
 ghost use Rattle.ec_driver.specs.Status.{ReadsAs};
 ghost use Rattle.ec_driver.specs.Task.{IsText};
 
@@ -152,6 +152,25 @@ pub(crate) fn load<S: Shelf>(alloc: Global, shelf: &mut S, file: &Text) -> Resul
     let text = fetch(shelf, file)?;
     match tree(alloc, &text) {
         Ok(program) => Ok(program),
+        Err(fail) => Err(status_of(fail)),
+    }
+}
+
+/// The typed program of a file, or the status that tells why there is none. The shelf is only read.
+pub(crate) fn load_typed<S: Shelf>(
+    alloc: Global,
+    shelf: &mut S,
+    file: &Text,
+) -> Result<Typed, Status>
+    ensures ok { IfOk result (λ t. OfText ((S.has shelf.old).told file.now) (λ text. HasTree text t)) }
+    ensures err { IfErr result (Unread Untyped ((S.has shelf.old).told file.now)) }
+    ensures only { OnlyReads (S.has shelf.old) (S.has shelf.new) }
+    ensures quiet { OnOk result ((S.has shelf.new).read_faults ≡ (S.has shelf.old).read_faults) }
+    ensures reads { IfErr result (λ s. ReadsAs s (S.has shelf.old).read_faults (S.has shelf.new).read_faults) }
+{
+    let text = fetch(shelf, file)?;
+    match typed(alloc, &text) {
+        Ok(source) => Ok(source.typed),
         Err(fail) => Err(status_of(fail)),
     }
 }

@@ -4,7 +4,7 @@ ghost use Rattle.ec_driver.specs.Lines.{not_program, not_token, not_typed, not_y
 ghost use Rattle.ec_driver.specs.Ending.{bare};
 ghost use Rattle.ec_driver.specs.Status.{number_of};
 
-use ec_base::{MAX_SOURCE, Reason, Span};
+use ec_base::{MAX_SOURCE, Reason, Span, Trap};
 use ec_core::{Code, Run};
 use ec_lex::LexRefusal;
 use ec_reader::ReadRefusal;
@@ -80,15 +80,17 @@ impl Refusal {
 }
 
 /// How a command ends.
-#[derive(Clone, Copy, Debug, PartialEq, Eq)]
+#[derive(Clone, Copy)]
 pub enum Status {
-    /// The run has ended, or the source is accepted.
+    /// The run or the meaning has ended, or the source is accepted.
     Done,
     /// The words are no command.
     WordsRefused,
     /// The source is refused.
     SourceRefused(Refusal),
-    /// A unit has made as many steps as it may.
+    /// The meaning traps.
+    Trapped(Trap),
+    /// A unit has made as many steps as it may, or a meaning has spent its ticks.
     StepsSpent,
     /// The file could not be read.
     ReadFault,
@@ -96,6 +98,8 @@ pub enum Status {
     WriteFault,
     /// Memory was wanted.
     NoMemory,
+    /// In a meaning more activations would be open at once than may be.
+    TooDeep,
 }
 
 impl Status {
@@ -107,10 +111,12 @@ impl Status {
             Status::Done => 0,
             Status::WordsRefused => 1,
             Status::SourceRefused(_) => 2,
+            Status::Trapped(_) => 3,
             Status::StepsSpent => 4,
             Status::ReadFault => 5,
             Status::WriteFault => 6,
             Status::NoMemory => 7,
+            Status::TooDeep => 9,
         }
     }
 }

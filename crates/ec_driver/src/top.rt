@@ -2,18 +2,19 @@
 ghost use Rattle.std.specs.Prelude.{◌≡◌, ◌<◌, ◌≤◌, ◌^◌, ℕ, true, false};
 ghost use Rattle.ec_edge.specs.Shelf.{OnlyReads};
 ghost use Rattle.ec_driver.specs.declared.command.Command.{Command};
-ghost use Rattle.ec_driver.specs.declared.command.Command.TheVariants.{Check, Print, Run};
+ghost use Rattle.ec_driver.specs.declared.command.Command.TheVariants.{Check, Print, Means, Run};
 ghost use Rattle.ec_driver.specs.Command.{IsCommand, IsGiven, IsNoCommand, is_threaded, run_of};
 ghost use Rattle.ec_driver.specs.Status.{ReadsAs};
 ghost use Rattle.ec_driver.specs.Task.{AcceptsTold, Does, Ends, Leaves, RefusesTold};
 
 use crate::command::{Command, RunWords, read_words};
 use crate::laws::sources_are_refused_once;
+use crate::meaning::say_meaning;
 use crate::run::run_program;
 use crate::say::{deliver, stop};
-use crate::source::{load, load_checked, load_printed};
+use crate::source::{load, load_checked, load_printed, load_typed};
 use crate::status::{Report, Status};
-use ec_base::{Fail, Text};
+use ec_base::{Fail, List, Text};
 use ec_edge::{Gate, Shelf, Sink};
 use std::alloc::Global;
 
@@ -51,6 +52,26 @@ fn print<S: Shelf, O: Sink, E: Sink>(
 {
     match load_printed(alloc, shelf, file) {
         Ok(text) => deliver(out, err, text.as_slice(), b"", Report::bare(Status::Done)),
+        Err(status) => stop(alloc, out, err, status),
+    }
+}
+
+/// Says what the program of a file means with these arguments, and reports how that ended.
+fn means<S: Shelf, O: Sink, E: Sink>(
+    alloc: Global,
+    file: &Text,
+    args: &List<i64>,
+    shelf: &mut S,
+    out: &mut O,
+    err: &mut E,
+) -> Report
+    ensures end { Does (Means file.now args.now) (S.has shelf.old)
+        (O.has out.old) (O.has out.new) (E.has err.old) (E.has err.new) result }
+    ensures reads { ReadsAs result.status (S.has shelf.old).read_faults (S.has shelf.new).read_faults }
+    ensures only { OnlyReads (S.has shelf.old) (S.has shelf.new) }
+{
+    match load_typed(alloc, shelf, file) {
+        Ok(program) => say_meaning(alloc, &program, args.as_slice(), out, err),
         Err(status) => stop(alloc, out, err, status),
     }
 }
@@ -95,6 +116,7 @@ fn perform<S: Shelf, O: Sink, E: Sink>(
     match command {
         Command::Check(file) => check(alloc, file, shelf, out, err),
         Command::Print(file) => print(alloc, file, shelf, out, err),
+        Command::Means(file, args) => means(alloc, file, args, shelf, out, err),
         Command::Run(words) => run(alloc, words, shelf, out, err),
     }
 }

@@ -15,4 +15,5 @@ mod tokens;
 
 pub use cut::lex;
 pub use laws::texts_have_one_cut;
+pub use numbers::number_value;
 pub use refusal::LexRefusal;

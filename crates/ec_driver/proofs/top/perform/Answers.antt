@@ -1,5 +1,7 @@
-use Rattle.ec_driver.specs.declared.command.Command.TheVariants.{Check, Print, Run}
+use Rattle.std.proofs.Common.{ap, ◌∙◌, Ok}
+use Rattle.ec_driver.specs.declared.command.Command.TheVariants.{Check, Print, Means, Run}
 use Rattle.ec_driver.proofs.Endings.{accepted, refuses}
+use Rattle.ec_driver.proofs.Words.{given_run}
 use Rattle.ec_driver.proofs.top.perform.Goals as goal
 
 -- ---- a check
@@ -38,6 +40,9 @@ returns-in-Print-clause-accepted g c =
 
 -- ---- a run
 
+pub run-requires : goal.run-requires
+run-requires g c = given_run c.requires.0 c.in-Run.words (c.requires.1 ∙ ap Ok c.in-Run.is)
+
 pub returns-in-Run-clause-end : goal.returns-in-Run-clause-end
 returns-in-Run-clause-end g c = rw c.in-Run.is c.run.ensures.end
 
@@ -52,3 +57,20 @@ returns-in-Run-clause-accepted g c =
     let law = c.sources_are_refused_once.ensures in
     let all = accepted law (g.S.Shelf.has c.args.shelf.now) (g.O.Sink.has c.args.out.now) (g.O.Sink.has c.run.new.out) (g.E.Sink.has c.args.err.now) (g.E.Sink.has c.run.new.err) c.run.result in
     rw c.in-Run.is (all (Run c.in-Run.words) c.run.ensures.end)
+
+-- ---- a meaning
+
+pub returns-in-Means-clause-end : goal.returns-in-Means-clause-end
+returns-in-Means-clause-end g c = rw c.in-Means.is c.means.ensures.end
+
+pub returns-in-Means-clause-refused : goal.returns-in-Means-clause-refused
+returns-in-Means-clause-refused g c =
+    let law = c.sources_are_refused_once.ensures in
+    let all = refuses law (g.S.Shelf.has c.args.shelf.now) (g.O.Sink.has c.args.out.now) (g.O.Sink.has c.means.new.out) (g.E.Sink.has c.args.err.now) (g.E.Sink.has c.means.new.err) c.means.result in
+    rw c.in-Means.is (all (Means c.in-Means.file c.in-Means.args) c.means.ensures.end)
+
+pub returns-in-Means-clause-accepted : goal.returns-in-Means-clause-accepted
+returns-in-Means-clause-accepted g c =
+    let law = c.sources_are_refused_once.ensures in
+    let all = accepted law (g.S.Shelf.has c.args.shelf.now) (g.O.Sink.has c.args.out.now) (g.O.Sink.has c.means.new.out) (g.E.Sink.has c.args.err.now) (g.E.Sink.has c.means.new.err) c.means.result in
+    rw c.in-Means.is (all (Means c.in-Means.file c.in-Means.args) c.means.ensures.end)
