@@ -12,7 +12,7 @@ err=$folder/err
 passed=0
 failed=0
 
-for part in judging words tokens grammar small_limits limits types printing stack examples launcher pointing trials builds pages; do
+for part in judging words tokens grammar small_limits limits types means printing stack examples launcher pointing trials builds pages; do
     # shellcheck disable=SC1090
     . "$top/tests/program/$part.sh"
 done

@@ -36,9 +36,9 @@ steps='earthc: waiting for another rt to finish in there\n'
 at=0
 for name in ec_base ec_lex ec_driver ec_main; do
     at=$((at + 1))
-    steps="${steps}earthc: since then: crate PLACE$at of 14, $name\n"
+    steps="${steps}earthc: since then: crate PLACE$at of 16, $name\n"
 done
-steps=$(printf '%s' "$steps" | sed -e 's/PLACE1/1/' -e 's/PLACE2/3/' -e 's/PLACE3/13/' -e 's/PLACE4/14/')
+steps=$(printf '%s' "$steps" | sed -e 's/PLACE1/1/' -e 's/PLACE2/3/' -e 's/PLACE3/15/' -e 's/PLACE4/16/')
 builds 'the first' 0 "${steps}earthc: the program is built: $built\n"
 cp "$folder/said" "$out"; : >"$err"; judge 'the words of a build' 0 "$site/crates/ec_main <run> <-->\n" ''
 builds 'again' 0 "earthc: the program is built: $built\n"

@@ -42,6 +42,7 @@ launches() {
 # ---- the built program: its words, statuses and streams
 
 printf '%s' 'int main(){ printf("%d\n", 6*7); return 9; }' >row.ec
+printf '%s' 'int main(int a, int b){ return a + b; }' >sums.ec
 printf '$' >case.ec
 plain='refused 1 at 0..1 BadByte\n' # the line of the program for case.ec
 mkfifo pipe
@@ -50,6 +51,10 @@ cp row.ec sub/row.ec
 launches 'run' 0 '42\n' 'result 9\n' -- run row.ec
 launches 'check' 0 'accepted\n' '' -- check sub/row.ec
 launches 'print' 0 'int main ( ) {\nprintf ( "%d\\n" , 6 * 7 ) ;\nreturn 9 ;\n}\n' '' -- print row.ec
+launches 'means' 0 '42\n' 'result 9\n' -- means row.ec
+launches 'means, with numbers' 0 '' 'result 15\n' -- means sums.ec 7 8
+launches 'means, with a number too many' 1 '' 'words refused\n' -- means sums.ec 1 2 3 4 5 6 7 8 9
+launches 'means, with no number' 1 '' 'words refused\n' -- means sums.ec 07
 launches 'no words' 1 '' 'words refused\n' --
 launches 'other words' 1 '' 'words refused\n' -- --help run row.ec
 launches 'a missing file' 5 '' 'read fault\n' -- run none.ec

@@ -1,5 +1,5 @@
 # shellcheck shell=sh
-# What the launcher adds to a refusal: its place, a sentence, the line and a marker.
+# What the launcher adds to a refusal and to a trap: its place, a sentence, the line and a marker.
 
 # points NAME COMMAND FORMAT TEXT: of the source that printf makes of the format, the launcher writes the line of the
 # program first and then the text
@@ -92,6 +92,40 @@ points 'a long string' print "int f() { printf(\"$(repeat 256 a)\"); }" \
     "case.ec:1:18: this string stands for more than 255 bytes\nint f() { printf(\"$(repeat 56 a)...\n                 ^$(repeat 56 '~')"
 points 'many parameters' print "int f($(repeat 8 'int a, ')int b)" \
     "case.ec:1:67: one more than a limit allows: 'earthc --explain 12' has the limits\nint f($(repeat 8 'int a, ')int b)\n$(repeat 66 ' ')^"
+
+# ---- traps
+
+# traps NAME OUT KIND FORMAT TEXT INT..: with these numbers the meaning of the source that printf makes of the format traps
+# at the mark; behind the line of the program the launcher writes the text
+traps() {
+    name=$1 written=$2 kind=$3 shows=$5
+    # shellcheck disable=SC2059
+    marked "$(printf "$4")"
+    shift 5
+    launches "$name" 3 "$written" "trap $kind at $place\n$shows\n" -- means case.ec "$@"
+}
+
+traps 'an index' '' Bounds 'int main(){ int *p;\n  p = malloc(sizeof(int));\n  return «p[1]»; }' \
+    'case.ec:3:10: an index here is below 0, or not below the number of elements\n  return p[1]; }\n         ^~~~'
+traps 'NULL' '' Null 'struct s { int v; };\nint main(){ struct s *p; return «p->v»; }' \
+    'case.ec:2:33: this goes through a pointer that is NULL\nint main(){ struct s *p; return p->v; }\n                                ^~~~'
+traps 'a division' 'so\n' DivZero 'int main(int n){ printf("so\\n"); return «1 / n»; }' \
+    'case.ec:1:41: this divides by 0\nint main(int n){ printf("so\\n"); return 1 / n; }\n                                        ^~~~~'
+traps 'a remainder of numbers' '' DivZero 'int main(int a, int b){ return «a %% b»; }' \
+    'case.ec:1:32: this divides by 0\nint main(int a, int b){ return a % b; }\n                               ^~~~~' 7 0
+traps 'a size' '' BadSize 'int main(int n){ int *p; p = «(int *) malloc(n * sizeof(int))»; return 0; }' \
+    'case.ec:1:30: this asks for fewer than 1 element, or for more than 1,048,576 cells\nint main(int n){ int *p; p = (int *) malloc(n * sizeof(int)); return 0; }\n                             ^~~~~~~~~~~~~~~~~~~~~~~~~~~~~~~' 1048577
+traps 'several lines of a division' '' DivZero 'int main(){ return «1\n/ 0»; }' \
+    'case.ec:1:20: this divides by 0\nint main(){ return 1\n                   ^'
+printf 'int main(int n){ return 1 / n; }' >case.ec
+launches 'no trap' 0 '' 'result 1\n' -- means case.ec 1
+: >"$out"
+status=0; "$house/earthc" means case.ec 2>/dev/full >"$out" || status=$?
+: >"$err"; judge 'launcher, err full, a trap' 6 '' ''
+status=0; "$house/earthc" means /dev/stdin <case.ec >"$out" 2>"$err" || status=$?
+judge 'launcher, a stream, a trap' 3 '' 'trap DivZero at 24..29\n'
+
+# ---- files
 
 # where FILE can't be read again, or isn't sure, nothing is added
 printf '$' >case.ec

@@ -67,12 +67,18 @@ cp row.ec './x=y.ec'
 cp row.ec main.rt
 for file in row.ec ./row.ec sub/row.ec "$PWD/row.ec" x=y.ec ./-y case.ec - ./-x 'a b.ec' 'a\b.ec' é.ec none.ec none/row.ec \
     row.ec/row.ec sub . / '' -y -- --data row.tc .tc src/main.rt main.rt /proc/self/mem "$(repeat 300 a)"; do
-    for command in run check print; do
+    for command in run check print means; do
         tries "$command '$file'" "$command" "$file"
     done
 done
+for words in 7 '7 0' '0 1 2 3 4 5 6 7' '1 2 3 4 5 6 7 8 9' 07 -7 --; do
+    # shellcheck disable=SC2086 # several words
+    tries "means with $words" means given.ec $words
+done
+tries 'means with a trap' means halts.ec
+tries 'means with output and a trap' means says.ec 1
 tries 'no words'
-for word in run check print RUN row.ec --version --build '' -- -x; do
+for word in run check print means RUN row.ec --version --build '' -- -x; do
     tries "'$word' alone" "$word" ''
     tries "'$word' and a file" "$word" row.ec row.ec
     tries "two words '$word'" "$word" "$word" ''
@@ -83,13 +89,17 @@ tries 'a file with no end' check /dev/zero
 tried run "$PWD/x=y.ec" </dev/null
 sed 's|=[^ >]*/source>|=../source>|' "$folder/said" >"$out"
 judge 'the words of a trial' 0 "$site/crates/ec_main <try> <--data> <earthc-trial.ec=../source> <--> <run> <earthc-trial.ec>\n" 'result 9\n'
+tried means given.ec 7 8 </dev/null
+sed 's|=[^ >]*/source>|=../source>|' "$folder/said" >"$out"
+judge 'the words of a trial with numbers' 0 \
+    "$site/crates/ec_main <try> <--data> <earthc-trial.ec=../source> <--> <means> <earthc-trial.ec> <7> <8>\n" 'result 7\n'
 tried run none.ec </dev/null
 cp "$folder/said" "$out"
 judge 'the words without a file' 5 "$site/crates/ec_main <try> <--> <run> <earthc-trial.ec>\n" 'read fault\n'
 tried RUN row.ec </dev/null
 cp "$folder/said" "$out"
 judge 'the words of no command' 1 "$site/crates/ec_main <try> <--> <RUN> <row.ec>\n" 'words refused\n'
-for command in run check print RUN; do
+for command in run check print means RUN; do
     tried "$command" "$ill" </dev/null
     cat "$folder/said" >>"$out"
     judge "tried, $command, FILE not UTF-8" 1 "$site/crates/ec_main <try> <-->\n" \

@@ -15,10 +15,11 @@ cp row.ec "$ill"
 
 for file in row.ec ./row.ec sub/row.ec "$PWD/row.ec" 'a row.ec' é.ec row row.tcx - ./- ./-x; do
     expect "run '$file'" 0 '42\n' 'result 0\n' -- run "$file"
+    expect "means '$file'" 0 '42\n' 'result 0\n' -- means "$file"
     expect "check '$file'" 0 'accepted\n' '' -- check "$file"
     expect "print '$file'" 0 'int main ( ) {\nprintf ( "%d\\n" , 6 * 7 ) ;\nreturn 0 ;\n}\n' '' -- print "$file"
 done
-for command in run check print; do
+for command in run check print means; do
     expect "$command, no FILE"          1 '' 'words refused\n' -- "$command"
     expect "$command, an empty FILE"    1 '' 'words refused\n' -- "$command" ''
     expect "$command, two FILEs"        1 '' 'words refused\n' -- "$command" row.ec row.ec
@@ -47,7 +48,7 @@ expect 'command not UTF-8'  1 '' 'words refused\n' -- "$ill" row.ec
 
 # ---- files
 
-for command in run check print; do
+for command in run check print means; do
     expect "$command, a missing file"     5 '' 'read fault\n' -- "$command" none.ec
     expect "$command, a missing folder"   5 '' 'read fault\n' -- "$command" none/row.ec
     expect "$command, a file as folder"   5 '' 'read fault\n' -- "$command" row.ec/row.ec

@@ -1,11 +1,12 @@
 //! The top call, over files and sinks in memory. A test is a table, each row of which is one call.
 use ec_base::{List, NoMemory, Text};
-use ec_driver::{Report, Status, earthc};
+use ec_driver::{Refusal, Report, Status, earthc};
 use ec_edge::{FreeGate, MemShelf, MemSink};
 use std::alloc::Global;
 use std::process::Abort;
 
 mod faulty;
+mod meaning;
 mod refusals;
 
 const ANSWER: &[u8] = b"int main(){ printf(\"%d\\n\", 6*7); return 0; }";
@@ -33,7 +34,7 @@ struct Ending<'a> {
 }
 
 /// The commands that read programs.
-const COMMANDS: &[&[u8]] = &[b"check", b"run", b"print"];
+const COMMANDS: &[&[u8]] = &[b"check", b"run", b"print", b"means"];
 
 /// What a call answered and wrote.
 #[derive(Drop)]
@@ -80,9 +81,23 @@ fn call(
     Ok(Called { report, out, err })
 }
 
+/// Why a source is refused, where a status says so.
+fn refusal_of(status: &Status) -> Option<Refusal> {
+    match status {
+        Status::SourceRefused(refusal) => Some(*refusal),
+        _ => None,
+    }
+}
+
+/// The status is the wanted one, and refuses a source as that does. The line tells a trap's kind and place.
+fn is_status(rt: &impl Abort, status: &Status, wanted: &Status) {
+    assert_eq!(rt; status.number(), wanted.number());
+    assert_eq!(rt; refusal_of(status), refusal_of(wanted));
+}
+
 /// The call ended so.
 fn is_ended(rt: &impl Abort, called: &Called, ending: &Ending) {
-    assert_eq!(rt; called.report.status, ending.status);
+    is_status(rt, &called.report.status, &ending.status);
     assert_eq!(rt; called.out.bytes(), ending.out);
     assert_eq!(rt; called.err.bytes(), ending.err);
 }

@@ -15,6 +15,8 @@ mod lex;
 #[cfg(test)]
 mod machine;
 #[cfg(test)]
+mod meaning;
+#[cfg(test)]
 mod print;
 #[cfg(test)]
 mod resolve;

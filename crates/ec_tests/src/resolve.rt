@@ -19,7 +19,7 @@ fn shape_of(alloc: Global, source: &str) -> Option<Shape> {
     let resolved = resolve(alloc, &typed).ok()?;
     let mut variables = Vec::new(alloc);
     for function in resolved.functions.as_slice() {
-        variables.push(function.variables).ok()?;
+        variables.push(function.variables.len()).ok()?;
     }
     Some(Shape {
         variables,

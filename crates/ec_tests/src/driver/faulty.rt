@@ -38,10 +38,19 @@ const UNWRITTEN: &[WriteRow] = &[
         b"int ",
     ),
     (b"print", b"", &[(1, 4)], &[], Status::Done, b""),
+    (b"means", ANSWER, &[(1, 1)], &[], Status::WriteFault, b"4"),
+    (
+        b"means",
+        ANSWER,
+        &[],
+        &[(1, 0)],
+        Status::WriteFault,
+        b"42\n",
+    ),
 ];
 
 #[test]
-fn what_a_check_or_a_print_cannot_write_is_a_fault(rt: HostRuntime) -> Result<(), NoMemory> {
+fn what_a_command_without_a_run_cannot_write_is_a_fault(rt: HostRuntime) -> Result<(), NoMemory> {
     for (command, source, out, err, status, written) in UNWRITTEN {
         let faults = Faults {
             shelf: &[],
@@ -97,6 +106,7 @@ const LONG: &[u8] =
 /// Commands over `LONG`, what they put out, and the line.
 const OUTPUTS: &[(&[u8], &[u8], &[u8])] = &[
     (b"run", b"1\n2\n3", b"result 0\n"),
+    (b"means", b"1\n2\n3", b"result 0\n"),
     (b"check", b"accepted\n", b""),
     (
         b"print",

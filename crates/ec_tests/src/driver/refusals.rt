@@ -72,7 +72,7 @@ fn a_source_is_refused_where_it_is_not_built(rt: HostRuntime) -> Result<(), NoMe
 #[test]
 fn a_source_is_refused_where_its_types_do_not_go_together(rt: HostRuntime) -> Result<(), NoMemory> {
     for row in NOT_TYPED {
-        is_refused(&rt, rt.alloc(), &[b"check", b"run"], row)?;
+        is_refused(&rt, rt.alloc(), &[b"check", b"run", b"means"], row)?;
     }
     Ok(())
 }
@@ -270,6 +270,19 @@ const NO_COMMANDS: &[&[&[u8]]] = &[
     &[b"print", b""],
     &[b"print", b"a.tc"],
     &[b"print", b"a.ec", b"a.ec"],
+    &[b"means"],
+    &[b"means", b""],
+    &[b"means", b"a.tc"],
+    &[b"means", b"-a.ec"],
+    &[b"means", b"a.ec", b"a.ec"],
+    &[b"means", b"a.ec", b"1", b""],
+    &[b"means", b"a.ec", b"01"],
+    &[b"means", b"a.ec", b"-1"],
+    &[b"means", b"a.ec", b"--"],
+    &[b"means", b"a.ec", b"9223372036854775808"],
+    &[
+        b"means", b"a.ec", b"1", b"2", b"3", b"4", b"5", b"6", b"7", b"8", b"9",
+    ],
 ];
 
 #[test]

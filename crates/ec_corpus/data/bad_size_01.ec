@@ -1,0 +1,1 @@
+int main(){ int *p; p = malloc(0 * sizeof(int)); return 0; }

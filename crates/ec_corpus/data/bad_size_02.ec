@@ -1,0 +1,1 @@
+int main(){ int *p; p = malloc(-1 * sizeof(int)); }

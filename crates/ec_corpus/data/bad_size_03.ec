@@ -1,0 +1,1 @@
+int main(){ int *p; p = (int *) malloc(0 * sizeof(int)); }

@@ -1,0 +1,1 @@
+struct t { int a[64]; }; int main(){ struct t *p; p = malloc(16385 * sizeof(struct t)); }

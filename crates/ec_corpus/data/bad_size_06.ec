@@ -1,0 +1,1 @@
+struct s { int v; struct s *n; int a[3]; }; int main(){ struct s *p; p = malloc(9223372036854775807 * sizeof(struct s)); }

@@ -1,0 +1,1 @@
+int main(){ int **p; p = malloc(4611686018427387904 * sizeof(int *)); }

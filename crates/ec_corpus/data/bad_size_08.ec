@@ -1,0 +1,1 @@
+int main(int n){ int *p; p = malloc(2 * sizeof(int)); p[1] = 3; p = malloc(n * sizeof(int)); return 1; }

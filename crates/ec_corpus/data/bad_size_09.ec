@@ -1,0 +1,1 @@
+int main(){ return malloc(0 * sizeof(int))[0]; }

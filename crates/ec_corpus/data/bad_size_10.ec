@@ -1,0 +1,1 @@
+void f(int *p){ } int main(){ f(malloc(0 * sizeof(int))); }

@@ -1,0 +1,1 @@
+int main(){ local int *l = malloc(sizeof(int)), *k = malloc((1 - 2) * sizeof(int)); }

@@ -1,0 +1,1 @@
+int main(int n){ int *p; p = malloc(n * sizeof(int)); p[n - 1] = n; return p[0]; }

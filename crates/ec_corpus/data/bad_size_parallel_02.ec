@@ -1,0 +1,1 @@
+int *g(int n){ return malloc(n * sizeof(int)); } int main(){ int *p; {^ p = g(2); p = g(0); ^} }

@@ -1,0 +1,1 @@
+int main(){ int i; int *p; forall (i = 2; i >= 0; i--) p = malloc(i * sizeof(int)); }

@@ -1,0 +1,1 @@
+int main(){ {^ { int *p = malloc(-5 * sizeof(int)); } ^} }

@@ -1,0 +1,1 @@
+int main(){ int x; int *p; p = malloc(3 * sizeof(int)); return p[3]; }

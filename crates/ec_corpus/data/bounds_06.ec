@@ -1,0 +1,1 @@
+int main(){ int x; int *p; p = malloc(3 * sizeof(int)); p[2] = 5; p[x + 4] = 1; }

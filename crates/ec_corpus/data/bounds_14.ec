@@ -1,0 +1,1 @@
+struct s { int v; struct s *n; int a[3]; }; int main(){ struct s *q; int x; q = malloc(2 * sizeof(struct s)); *q = q[2]; }

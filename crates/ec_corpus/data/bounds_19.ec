@@ -1,0 +1,1 @@
+struct s { int v; struct s *n; int a[3]; }; int main(){ struct s *q; q[9].a[-1] = 4; }

@@ -1,0 +1,1 @@
+int main(){ int x; int *p; p = malloc(3 * sizeof(int)); p[p[4]] = p[5]; }

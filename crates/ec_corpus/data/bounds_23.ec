@@ -1,0 +1,1 @@
+struct s { int a[2]; }; int f(){ printf("x"); return 1; } int main(){ struct s *p; p = malloc(sizeof(struct s)); p->a[2] = f(); return 0; }

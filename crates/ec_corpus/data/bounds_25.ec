@@ -1,0 +1,1 @@
+int main(){ local int *l; l = malloc(2 * sizeof(int)); l[1] = 3; return l[l[1]]; }

@@ -1,0 +1,1 @@
+int main(){ int x; int *p; p = malloc(3 * sizeof(int)); {^ p[1] = 2; p[3] = 1; p[0] = 4; ^} }

@@ -1,0 +1,1 @@
+int f(int n){ shared int k; writeto(&k, n); return n; } int main(){ int x; int *p; p = malloc(3 * sizeof(int)); {^ x = f(3); f(p[7]); ^} }

@@ -1,0 +1,1 @@
+int f(int n){ shared int k; writeto(&k, n); return n; } void g(int *p){ p[0] = 1; p[3] = 1; } int main(){ int x; int *p; p = malloc(3 * sizeof(int)); {^ f(4); g(p); f(5); ^} }

@@ -1,0 +1,1 @@
+int main(){ int x; int *p; p = malloc(3 * sizeof(int)); forall (x = 0; x < 4; x++) p[x] = x + 1; }

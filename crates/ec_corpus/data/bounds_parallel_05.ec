@@ -1,0 +1,1 @@
+int main(){ int x; int *p; p = malloc(3 * sizeof(int)); forall (x = 0; p[x] == 0; x++) p[x] = 0; }

@@ -1,0 +1,1 @@
+struct s { int v; struct s *n; int a[3]; }; int main(){ struct s *q; int x; q = malloc(2 * sizeof(struct s)); forall (x = 0; x < 3; x++) q->a[x] = q->a[x + 1]; }

@@ -1,0 +1,1 @@
+int main(int n){ if (n < 0) return -1; else if (n == 0) return 0; else return 1; }

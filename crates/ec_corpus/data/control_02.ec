@@ -1,0 +1,1 @@
+int main(int n){ if (n) if (n > 5) return 2; else return 3; return 4; }

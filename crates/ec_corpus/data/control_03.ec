@@ -1,0 +1,1 @@
+int main(){ int *p; if (p) return 1; p = malloc(sizeof(int)); if (p) return 2; return 3; }

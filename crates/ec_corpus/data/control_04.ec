@@ -1,0 +1,1 @@
+int main(){ if (NULL) return 1; if (!NULL) return 2; }

@@ -1,0 +1,1 @@
+int main(){ int i; while (i < 3) i++; return i; }

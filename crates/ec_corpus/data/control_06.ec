@@ -1,0 +1,1 @@
+int main(){ int i; for (;;) { i = i + 1; if (i == 3) return i; } }

@@ -1,0 +1,1 @@
+int main(){ int i; for (i = 5; i; i--) ; return i; }

@@ -1,0 +1,1 @@
+int main(){ int i; for (; i < 2;) i++; return i; }

@@ -1,0 +1,1 @@
+int main(){ int i; for (i = 3; i < 2; i++) i = 9; return i; }

@@ -1,0 +1,1 @@
+int main(){ int i, j, s; for (i = 0; i < 3; i++) for (j = i; j < 3; j++) s = s + i * j; return s; }

@@ -1,0 +1,1 @@
+int main(){ int i; while (1) { while (1) { i++; if (i % 7 == 0) return i; } } }

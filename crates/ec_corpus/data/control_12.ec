@@ -1,0 +1,1 @@
+int main(){ int *p; for (p = malloc(sizeof(int)); p; p = NULL) *p = 4; return p == NULL; }

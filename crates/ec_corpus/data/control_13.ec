@@ -1,0 +1,1 @@
+int main(){ while (0) ; for (; 0; ) ; for (; NULL; ) ; return 1; }

@@ -1,0 +1,1 @@
+int main(int n){ int s; for (; n > 0; n = n / 10) { s = s * 10 + n % 10; } return s; }

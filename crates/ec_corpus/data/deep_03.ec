@@ -1,0 +1,1 @@
+int d(int n){ int r; if (n == 0) { return 0; } {^ { r = d(n - 1); } ^} return r + 1; } int main(int n){ return d(n); }

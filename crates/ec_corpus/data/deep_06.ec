@@ -1,0 +1,1 @@
+void f(){ shared int s; addto(&s, 1); f(); } int main(){ f(); return 0; }

@@ -1,0 +1,1 @@
+int main(int n){ int i; for (i = 0; i < n; i++) f(); return i; } void f(){ }

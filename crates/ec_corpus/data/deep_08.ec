@@ -1,0 +1,1 @@
+int d(int n){ if (n == 0) return 1 / n; return d(n - 1); } int main(int n){ return d(n); }

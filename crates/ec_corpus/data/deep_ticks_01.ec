@@ -1,0 +1,1 @@
+void f(int n){ shared int s; writeto(&s, n); if (n) {^ f(n - 1); { f(n - 1); } ^} } int main(int n){ f(n); return n; }

@@ -1,0 +1,1 @@
+int main(int n){ return 2 + (3 * (n + 4 % (n - n))); }

@@ -1,0 +1,1 @@
+int main(int n){ return f() / g() + f(); } int f(){ printf("f"); return 1; } int g(){ printf("g"); return 0; }

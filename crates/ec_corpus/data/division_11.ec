@@ -1,0 +1,1 @@
+int main(){ int *p; *p = 1 % 0; }

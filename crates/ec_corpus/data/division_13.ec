@@ -1,0 +1,1 @@
+int main(){ int *p; p = malloc(8 % (1 - 1) * sizeof(int)); }

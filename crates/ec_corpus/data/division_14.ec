@@ -1,0 +1,1 @@
+int main(){ int x; if (x / x) return 1; }

@@ -1,0 +1,1 @@
+int main(){ int x; while (1 / x) ; }

@@ -1,0 +1,1 @@
+void f(){ printf("no"); } int main(){ f()@NODE(1 % 0); }

@@ -1,0 +1,1 @@
+int main(){ shared int s; writeto(&s, 3); writeto(&s, 4 / 0); }

@@ -1,0 +1,1 @@
+int main(){ shared int s; return 1 / valueof(&s); }

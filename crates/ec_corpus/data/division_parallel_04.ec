@@ -1,0 +1,1 @@
+int f(int n){ shared int k; writeto(&k, n); return n; } int g(int x){ return 3 / x; } int main(){ int x; {^ f(3); x = g(x); ^} }

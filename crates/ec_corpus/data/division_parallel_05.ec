@@ -1,0 +1,1 @@
+int f(int n){ shared int k; writeto(&k, n); return n; } int main(){ int i, x; forall (i = 3; i >= 0; i--) { f(i); x = 6 / i; } }

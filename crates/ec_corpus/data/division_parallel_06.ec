@@ -1,0 +1,1 @@
+int main(){ int i; forall (i = 2; 4 / i; i--) ; }

@@ -1,0 +1,1 @@
+int f(int n){ shared int k; writeto(&k, n); return n; } int main(){ int i; forall (i = 2; i; i = i / 0) f(i); }

@@ -1,0 +1,1 @@
+int main(){ int i; forall (i = 0; i < 0; i++) { } return i; }

@@ -1,0 +1,1 @@
+int main(){ int *a; int i; a = malloc(4 * sizeof(int)); forall (i = 0; i < 4; i++) a[i] = i * i; return a[3]; }

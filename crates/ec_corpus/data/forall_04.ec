@@ -1,0 +1,1 @@
+int f(int n){ shared int k; writeto(&k, n); return n; } int main(){ int i, s; forall (i = 0; i < 4; i++) s = s + f(i); return s; }

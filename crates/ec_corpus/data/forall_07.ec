@@ -1,0 +1,1 @@
+int f(int n){ shared int k; writeto(&k, n); return n; } int main(){ int i, j; forall (i = 0; i < 2; i++) forall (j = 0; j < 2; j++) f(i * 2 + j); return j; }

@@ -1,0 +1,1 @@
+int main(){ int i; shared int s; forall (i = 5; i > 0; i = i - 2) addto(&s, i); return valueof(&s) * 10 + i; }

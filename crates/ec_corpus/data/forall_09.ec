@@ -1,0 +1,1 @@
+int main(){ int i, n; forall (i = 0; i < 9; i++) { i = i + 2; n++; } return i * 10 + n; }

@@ -1,0 +1,1 @@
+struct c { int v; struct c *n; }; struct c *k(struct c *n){ struct c *c; c = malloc(sizeof(struct c)); c->n = n; return c; } int main(){ struct c *h; struct c *p; int s; h = k(k(NULL)); forall (p = h; p != NULL; p = p->n) p->v = 7; for (p = h; p; p = p->n) s = s + p->v; return s + (p == NULL); }

@@ -1,0 +1,1 @@
+int main(){ int i; shared int s; writeto(&s, 3); forall (i = valueof(&s); i < 2 * valueof(&s); i++) ; return i; }

@@ -1,0 +1,1 @@
+int main(){ int i; forall ((i) = 0; (i < 2); (i) = (i + 1)) { int k; k = k + 1; { shared int s; addto(&s, k); } } return i; }

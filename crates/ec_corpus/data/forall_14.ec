@@ -1,0 +1,1 @@
+int main(){ int *a; int i, j; a = malloc(6 * sizeof(int)); forall (i = 0; i < 6; i++) a[i] = i; j = i; return j + a[5]; }

@@ -1,0 +1,1 @@
+int main(){ int i, x; forall (i = 3; i; i--) { if (i == 2) x = x + 10; else { x = x + 1; } } return x; }

@@ -1,0 +1,1 @@
+void f(){ } int g(){ } int h(int a, int b){ return a - b; } int main(){ f(); return g() + h(1, 2); }

@@ -1,0 +1,1 @@
+int *p(){ } int main(){ return p() == NULL; }

@@ -1,0 +1,1 @@
+void f(int x){ x = x + 1; } int main(){ int x = 4; f(x); return x; }

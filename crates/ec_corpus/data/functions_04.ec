@@ -1,0 +1,1 @@
+void f(int *q){ *q = 5; q = NULL; } int main(){ int *p; p = malloc(sizeof(int)); f(p); return *p; }

@@ -1,0 +1,1 @@
+int fact(int n){ if (n < 2) return 1; return n * fact(n - 1); } int main(int n){ return fact(n); }

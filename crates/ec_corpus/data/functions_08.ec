@@ -1,0 +1,1 @@
+int main(int n){ if (n > 0) return main(n - 1) + 2; return 0; }

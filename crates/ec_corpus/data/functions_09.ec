@@ -1,0 +1,1 @@
+void f(){ return; printf("no"); } int main(){ f(); return 1; }

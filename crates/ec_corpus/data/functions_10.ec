@@ -1,0 +1,1 @@
+int f(int n){ while (1) { for (;;) { if (n) return 7; } } } int main(){ return f(3); }

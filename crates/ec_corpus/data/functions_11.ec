@@ -1,0 +1,1 @@
+int f(int n){ int x; x = x + n; return x; } int main(){ return f(3) * 10 + f(4); }

@@ -1,0 +1,1 @@
+struct f { int f; }; int f(int x){ return x * 2; } int main(){ int f = 3; return f(f) + f; }

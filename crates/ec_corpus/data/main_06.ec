@@ -1,0 +1,1 @@
+int main(int n){ if (n) { return 1; } }

@@ -1,0 +1,1 @@
+int main(){ int *a; a = malloc(2 * sizeof(int)); a[1] = 3; return a[1]; }

@@ -1,0 +1,1 @@
+int main(){ int *a; a = malloc(3 * sizeof(int)); *a = 1; a[1] = *a + 1; a[a[1]] = 7; return a[2] * 10 + a[0]; }

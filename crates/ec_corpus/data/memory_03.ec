@@ -1,0 +1,1 @@
+int main(){ int **q; int *p; q = malloc(2 * sizeof(int *)); p = malloc(sizeof(int)); *q = p; **q = 4; q[0][0] = **q + 1; return *p + (q[1] == NULL); }

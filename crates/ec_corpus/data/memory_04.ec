@@ -1,0 +1,1 @@
+struct s { int v; struct s *n; int a[3]; int *q; }; int main(){ struct s *p; p = malloc(sizeof(struct s)); p->v = 5; p->n = p; p->n->n->a[2] = 6; return (*p).v * 10 + p[0].a[2]; }

@@ -1,0 +1,1 @@
+struct s { int v; struct s *n; int a[2]; }; int main(){ struct s *p; p = malloc(3 * sizeof(struct s)); p[1].a[0] = 1; (*p).a[1] = 2; p[2].v = 3; p[1].n = p; return p[1].n->a[1]; }

@@ -1,0 +1,1 @@
+struct s { int v; struct s *n; int a[2]; }; int main(){ struct s *p; struct s *q; p = malloc(2 * sizeof(struct s)); q = malloc(sizeof(struct s)); q->v = 4; q->n = p; q->a[1] = 8; p[1] = *q; q->v = 5; *p = p[1]; p[1] = p[1]; return p->v; }

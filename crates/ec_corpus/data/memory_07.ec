@@ -1,0 +1,1 @@
+int main(){ int *p, *q; p = malloc(sizeof(int)); q = malloc(sizeof(int)); return (p == q) + 2 * (p == p) + 4 * (p != q) + 8 * (q != NULL) + 16 * (NULL == p); }

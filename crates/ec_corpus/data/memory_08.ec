@@ -1,0 +1,1 @@
+int main(){ int *p; p = (int *) malloc((2 + 1) * sizeof(int)); return p[2]; }

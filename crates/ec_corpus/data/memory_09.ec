@@ -1,0 +1,1 @@
+int main(){ int x = 2; int *p; p = malloc(x * x % 3 * sizeof(int)); return p[0]; }

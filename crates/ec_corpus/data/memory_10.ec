@@ -1,0 +1,1 @@
+int main(){ return *(int *) malloc(sizeof(int)) + malloc(2 * sizeof(int))[1] + (malloc(sizeof(int)) == malloc(sizeof(int))); }

@@ -1,0 +1,1 @@
+int main(){ local int *l; int *p; l = malloc(3 * sizeof(int)); l[1] = 4; p = l; p[2] = l[1] + 1; return l[2]; }

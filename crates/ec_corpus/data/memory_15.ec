@@ -1,0 +1,1 @@
+struct s { int v; struct s *n; }; int main(){ local struct s *l; l = malloc(sizeof(struct s)); l->n = l; l->n->v = 3; *l = *l->n; return l->v; }

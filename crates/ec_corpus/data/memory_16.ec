@@ -1,0 +1,1 @@
+int main(){ local int **l; local int *k = NULL; l = malloc(sizeof(int *)); *l = malloc(sizeof(int)); **l = 6; k = NULL; return **l + (k == *l); }

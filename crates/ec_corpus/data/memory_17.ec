@@ -1,0 +1,1 @@
+struct s { int v; struct s *n; }; struct s *cons(int v, struct s *n){ struct s *c; c = malloc(sizeof(struct s)); c->v = v; c->n = n; return c; } int main(){ struct s *p; int s; p = cons(1, cons(2, cons(3, NULL))); for (; p; p = p->n) s = s * 10 + p->v; return s; }

@@ -1,0 +1,1 @@
+int f(int *q){ q[0] = 10; return 100; } int main(){ int *p; int x; p = malloc(2 * sizeof(int)); p[0] = 1; x = p[0] + f(p) + p[0]; return x; }

@@ -1,0 +1,1 @@
+int f(int *q){ q[0] = 1; return 5; } int main(){ int *p; p = malloc(2 * sizeof(int)); p[p[0]] = f(p); return p[0] * 10 + p[1]; }

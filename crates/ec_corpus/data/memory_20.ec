@@ -1,0 +1,1 @@
+int f(int **q){ *q = NULL; return 5; } int main(){ int **q; int *p; q = malloc(sizeof(int *)); p = malloc(sizeof(int)); *q = p; **q = f(q); return *p; }

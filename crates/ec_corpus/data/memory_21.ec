@@ -1,0 +1,1 @@
+struct s { int v; int w; }; int f(struct s *p){ p->v = 1; p->w = 2; return 1; } int main(){ struct s *p; p = malloc(2 * sizeof(struct s)); p[f(p)] = p[1 - p->v]; return p->v * 10 + p[1].v; }

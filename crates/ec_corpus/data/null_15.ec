@@ -1,0 +1,1 @@
+struct s { int v; struct s *n; int a[3]; }; int main(){ int x; int *p; struct s *q; struct s *r; (*p) = 1; }

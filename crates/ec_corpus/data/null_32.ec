@@ -1,0 +1,1 @@
+int main(){ int **q; int *p = *q; }

@@ -1,0 +1,1 @@
+void f(int a, int b, int c){ } int g(){ printf("no"); return 1; } int main(){ int *p; f(1, *p, g()); }

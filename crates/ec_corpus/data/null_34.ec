@@ -1,0 +1,1 @@
+void f(int a){ printf("no"); } int g(){ printf("g"); return 1; } int main(){ int *p; f(g())@NODE(*p); }

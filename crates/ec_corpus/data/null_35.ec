@@ -1,0 +1,1 @@
+int f(int *p){ return *p; } int main(){ printf("%d", f(NULL)); return 1; }

@@ -1,0 +1,1 @@
+int main(){ shared int s; int *p; addto(&s, 3); addto(&s, *p); }

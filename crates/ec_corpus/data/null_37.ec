@@ -1,0 +1,1 @@
+int main(){ int *p; p = malloc(2 * sizeof(int)); p[1] = 4; p = NULL; p[1] = 5; }

@@ -1,0 +1,1 @@
+int main(){ int **q; q = malloc(3 * sizeof(int *)); q[1][0] = 1; }

@@ -1,0 +1,1 @@
+int main(){ int **q; q = malloc(sizeof(int *)); return **q; }

@@ -1,0 +1,1 @@
+int main(){ int *p; int x; {^ ; x = 1; p[3] = x; x = 9; ^} }

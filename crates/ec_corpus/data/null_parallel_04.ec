@@ -1,0 +1,1 @@
+int g(int *p){ return *p; } int f(int n){ shared int k; writeto(&k, n); return n; } int main(){ int *p; int x; {^ x = g(p); f(2); ^} }

@@ -1,0 +1,1 @@
+int main(){ int *p; int i; forall (i = 0; i < 3; i++) p[i] = 1; }

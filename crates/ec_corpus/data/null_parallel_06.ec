@@ -1,0 +1,1 @@
+int main(){ int *p; int i; forall (i = *p; i < 3; i++) ; }

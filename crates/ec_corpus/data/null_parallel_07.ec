@@ -1,0 +1,1 @@
+int main(){ int *p; int i; forall (i = 0; i < *p; i++) ; }

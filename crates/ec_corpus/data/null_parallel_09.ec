@@ -1,0 +1,1 @@
+struct s { int v; struct s *n; int a[3]; }; int main(){ struct s *q; {^ { struct s *r; r = malloc(sizeof(struct s)); *r = *q; } ^} }

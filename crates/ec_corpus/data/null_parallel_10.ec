@@ -1,0 +1,1 @@
+void g(int *p){ {^ ; *p = 1; ^} } int main(){ {^ {^ g(NULL); ^} ^} }

@@ -1,0 +1,1 @@
+int f(int n){ return n; } int main(){ int x; int y; {^ x = 1; y = f(x + 1); ^} return y; }

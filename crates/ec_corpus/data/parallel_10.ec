@@ -1,0 +1,1 @@
+int f(int n){ shared int k; writeto(&k, n); return n; } int main(){ int *p; p = malloc(sizeof(int)); {^ *p = f(7); ^} return *p; }

@@ -1,0 +1,1 @@
+int f(int n){ shared int k; writeto(&k, n); return n; } int main(){ int x; shared int s; {^ x = f(valueof(&s) + 3); ^} return x; }

@@ -1,0 +1,1 @@
+void g(shared int *q){ shared int k; addto(q, 2); } int main(){ shared int s; {^ g(&s); g((&s)); ^} return valueof(&s); }

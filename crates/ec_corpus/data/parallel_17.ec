@@ -1,0 +1,1 @@
+int f(int n){ shared int k; writeto(&k, n); return n; } int main(){ int x = 5, y; {^ y = f(!x || -x && ~x)@NODE(x / 2 % 3); ^} return y; }

@@ -1,0 +1,1 @@
+int f(int n){ shared int k; writeto(&k, n); return n; } int main(){ int *p; int x; {^ x = f(3)@OWNER_OF(p); ^} return x; }

@@ -1,0 +1,1 @@
+int f(int n){ shared int k; writeto(&k, n); return n; } int main(){ int x; {^ x = f(3)@NODE(f(4)); ^} return x; }

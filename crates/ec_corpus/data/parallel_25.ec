@@ -1,0 +1,1 @@
+int f(int n){ shared int k; writeto(&k, n); return n; } int main(){ int x, y; {^ x = f(1); { int k = 5; y = f(k); k = f(k + 1); } f(9); ^} x = f(x + y); return x; }

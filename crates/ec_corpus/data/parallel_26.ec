@@ -1,0 +1,1 @@
+int main(){ int x, y, z; {^ x = x + 1; y = y + 2; { z = x; z = z + y; } ^} return z; }

@@ -1,0 +1,1 @@
+int main(){ int *p; {^ { p = malloc(sizeof(int)); *p = 3; } ; ^} return *p; }

@@ -1,0 +1,1 @@
+int main(){ int *p, *q; {^ p = malloc(sizeof(int)); q = malloc(2 * sizeof(int)); ^} *p = 1; q[1] = 2; return p != q; }

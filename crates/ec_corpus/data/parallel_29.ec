@@ -1,0 +1,1 @@
+int main(){ int i, x; {^ for (i = 0; i < 3; i++) x = x + i; while (0) ; ^} return x; }

@@ -1,0 +1,1 @@
+int f(int n){ shared int k; writeto(&k, n); return n; } int main(){ int i, x; for (i = 0; i < 3; i++) {^ x = f(i); f(i + 10); ^} return x; }

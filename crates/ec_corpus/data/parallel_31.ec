@@ -1,0 +1,1 @@
+int main(){ int x; {^ { shared int s; writeto(&s, 5); x = valueof(&s); } { shared int r; } ^} return x; }

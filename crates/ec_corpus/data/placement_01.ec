@@ -1,0 +1,1 @@
+int f(int n){ return n; } int main(){ int x; f(1); x = f(2)@NODE(3); return x; }

@@ -1,0 +1,1 @@
+int f(int n){ return n; } int main(){ int *p; return f(1) + f(2)@HOME + f(3)@ANYWHERE + f(4)@NODE(-7) + f(5)@OWNER_OF(p) + f(6)@OWNER_OF(NULL); }

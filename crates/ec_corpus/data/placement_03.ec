@@ -1,0 +1,1 @@
+int g(){ shared int a; writeto(&a, 1); return 1; } int h(){ shared int a; writeto(&a, 2); return 2; } int f(int n){ shared int a; writeto(&a, 3); return n; } int main(){ int x; x = f(g())@NODE(h()); return x; }

@@ -1,0 +1,1 @@
+int g(){ shared int a; return 2; } int main(){ int *p; p = malloc(g() * sizeof(int)); return 0; }

@@ -1,0 +1,1 @@
+int *g(){ return malloc(sizeof(int)); } void f(int *a, int *b, int *c){ *a = 1; *b = 2; *c = 3; a = malloc(sizeof(int)); } int main(){ int *p; p = malloc(sizeof(int)); f(g(), malloc(sizeof(int)), g())@OWNER_OF(malloc(sizeof(int))); return 0; }

@@ -1,0 +1,1 @@
+int *f(int n, int *q){ int *r; r = malloc(sizeof(int)); *r = n; if (q) *r = *q * 10 + n; return r; } int main(){ int *a; a = f(1, NULL); a = f(2, a)@OWNER_OF(a); a = f(3, a)@NODE(*a); return *a; }

@@ -1,0 +1,1 @@
+int f(){ printf("f"); return 1; } int g(){ printf("g"); return 2; } int main(){ printf("%d", f()@NODE(g())); }

@@ -1,0 +1,1 @@
+int main(){ int i; int *p; for (i = 0; i < 12; i++) p = malloc(sizeof(int)); return *p; }

@@ -1,0 +1,1 @@
+int main(){ return 1 | 6 ^ 3 & 5 == 5; }

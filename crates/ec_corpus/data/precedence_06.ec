@@ -1,0 +1,1 @@
+int main(){ return 10 - 3 - 2; }

@@ -1,0 +1,1 @@
+int main(){ return 100 / 7 % 4 * 3; }

@@ -1,0 +1,1 @@
+int main(){ printf("");  printf("a"); printf("%d", 1); printf("%ld;", -2); return 0; }

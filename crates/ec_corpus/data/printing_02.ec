@@ -1,0 +1,1 @@
+int main(){ printf("%d%%%ld|%%d\n\t\\\"", 3, 4); }

@@ -1,0 +1,1 @@
+int f(int n){ printf("<%d>", n); return n * 5; } int main(){ printf("%d%d", f(1), f(2)); return 0; }

@@ -1,0 +1,1 @@
+int f(int n){ printf("%d,", n); if (n) f(n - 1); printf("%d.", n); return n; } int main(){ return f(2); }

@@ -1,0 +1,1 @@
+int main(){ printf("%d%d%d%d%d%d%d%d", 1, 2, 3, 4, 5, 6, 7, 8); }

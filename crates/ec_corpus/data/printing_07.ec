@@ -1,0 +1,1 @@
+int main(){ int i; for (i = 0; i < 3; i++) printf("%d ", i * i); printf("// /* no comment */"); }

@@ -1,0 +1,3 @@
+#include <stdio.h>
+int main(){ /* a */ printf("é{^"); // b
+ return 3; }

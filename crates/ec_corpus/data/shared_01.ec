@@ -1,0 +1,1 @@
+int main(){ shared int s; addto(&s, 2); return valueof(&s); }

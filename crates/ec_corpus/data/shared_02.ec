@@ -1,0 +1,1 @@
+int main(){ shared int s, r; writeto(&s, 4); writeto(&r, valueof(&s) + 1); addto(&s, valueof(&r)); return valueof((&s)); }

@@ -1,0 +1,1 @@
+int main(){ shared int s; writeto(&s, 9223372036854775807); addto(&s, 1); return valueof(&s); }

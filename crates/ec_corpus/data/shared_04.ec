@@ -1,0 +1,1 @@
+void f(shared int *q){ addto(q, valueof(q) + 1); g(q); } void g(shared int *q){ addto((q), 10); } int main(){ shared int s; f(&s); f(&s)@HOME; return valueof(&s); }

@@ -1,0 +1,1 @@
+int main(){ int i, r; for (i = 0; i < 3; i++) { shared int s; addto(&s, i); r = r + valueof(&s); } return r; }

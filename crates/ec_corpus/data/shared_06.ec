@@ -1,0 +1,1 @@
+int main(){ int i; while (i < 2) { int *p; shared int s; p = malloc(sizeof(int)); *p = i; writeto(&s, i + 5); i++; } }

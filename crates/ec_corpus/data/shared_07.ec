@@ -1,0 +1,1 @@
+int f(int n){ shared int s; addto(&s, n); if (n) addto(&s, f(n - 1)); return valueof(&s); } int main(){ return f(3); }

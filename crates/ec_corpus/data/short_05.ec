@@ -1,0 +1,1 @@
+int f(){ printf("no"); return 1; } int main(){ int x; return 1 || (0 && f()); }

@@ -1,0 +1,1 @@
+int f(){ printf("y"); return 1; } int main(){ return (f() && 0) + (f() || 0); }

@@ -1,0 +1,1 @@
+void f(){ shared int s; addto(&s, 1); } int main(){ for (;;) f(); }

@@ -1,0 +1,1 @@
+int main(){ int x = x + 1; int y = x + 1; return x * 10 + y; }

@@ -1,0 +1,1 @@
+int main(){ int a, b = 2, c; a = b; c = a; return c; }

@@ -1,0 +1,1 @@
+int main(){ int i, s; for (i = 0; i < 3; i++) { int k; k = k + 5; s = s + k; } return s; }

@@ -1,0 +1,1 @@
+int main(){ int i, s; while (i < 3) { int k = i; i++; k = k * 2; s = s + k; } return s; }

@@ -1,0 +1,1 @@
+int main(){ int *p; int **q; int *r = p; return (p == NULL) + (q == NULL) + (r == p); }

@@ -1,0 +1,1 @@
+int main(){ int x; (x) = 3; ((x)) = x + (x); return (x); }

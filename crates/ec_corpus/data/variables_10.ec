@@ -1,0 +1,1 @@
+int main(){ int x = 1; { int y = x + 1; { int z = y + 1; x = z; } } return x; }

@@ -1,0 +1,1 @@
+int main(){ printf("%d\n", 6*7); return 0; }

@@ -1,0 +1,1 @@
+int main(){ int x = 2; x = x - 5; printf("%d %d%%\n", x, x * x); return x + 3; }

@@ -1,0 +1,1 @@
+int main(){ shared int s; {^ addto(&s, 1); addto(&s, 2); ^} return valueof(&s); }

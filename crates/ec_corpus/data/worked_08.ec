@@ -1,0 +1,1 @@
+int w(int n){ int i; for (i = 0; i < n; i++) ; return i; } int main(){ int *p; int a; int b; {^ a = w(100); b = *p; ^} return a + b; }
