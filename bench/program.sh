@@ -15,10 +15,10 @@ sys.exit(status)' "$@"
     }
 fi
 
-# once COMMAND FILE: the nanoseconds and the peak in KiB on a line; a refusal with 9 is an answer too
+# once COMMAND FILE: the nanoseconds and the peak in KiB on a line; a refusal with 9 and spent ticks are answers too
 once() {
     from=$(date +%s%N)
-    peak_of "$program" "$1" "$2" >out 2>err || grep -q '^refused 9 ' err ||
+    peak_of "$program" "$1" "$2" >out 2>err || grep -q -e '^refused 9 ' -e '^steps spent' err ||
         echo "$0: $1 $2 ended with status $?: $(cat err)" >&2
     to=$(date +%s%N)
     echo "$((to - from)) $(tail -n 1 peak)"

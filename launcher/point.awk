@@ -1,4 +1,4 @@
-# Writes where a refusal is and what is wrong there, then the line with a marker below the bytes from `from` to `to`. Reads
+# Writes where a refusal or trap is and what is wrong there, then the line with a marker below the bytes from `from` to `to`. Reads
 # the bytes of the source from `start` on as numbers. The place stands in line `line`, and `before` is how many characters of
 # that line end before `start`. A tab stands in the marker's line too; a byte that is no character, or that a terminal
 # would act on, is shown as `?`; a line of more than `widest` characters is cut round the place.
@@ -143,6 +143,7 @@ function quoted() {
 }
 
 function sentence() {
+    if (kind) return of_trap()
     if (number == 1) return of_byte()
     if (number == 2) return of_number()
     if (number == 3) return "this comment is not closed: `*/` is missing"
@@ -156,6 +157,14 @@ function sentence() {
     if (number == 12) return of_limit()
     if (number > 19) return of_types()
     return "refused"
+}
+
+function of_trap() {
+    if (kind == "Null") return "this goes through a pointer that is NULL"
+    if (kind == "Bounds") return "an index here is below 0, or not below the number of elements"
+    if (kind == "DivZero") return "this divides by 0"
+    if (kind == "BadSize") return "this asks for fewer than 1 element, or for more than 1,048,576 cells"
+    return "a trap"
 }
 
 function of_byte() {

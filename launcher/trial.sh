@@ -71,9 +71,13 @@ try() { # WORD..
     elif ! names_file "$@"; then
         set -- -- "$@"
     elif is_copied "$@"; then
-        set -- --data "$source_name=$room/source" -- "$1" "$source_name"
+        named=$1
+        shift 2
+        set -- --data "$source_name=$room/source" -- "$named" "$source_name" "$@"
     else
-        set -- -- "$1" "$source_name"
+        named=$1
+        shift 2
+        set -- -- "$named" "$source_name" "$@"
     fi
     attend run_trial "$@"
     [ -z "$caught" ] || end "$status"
@@ -83,8 +87,8 @@ try() { # WORD..
         *) fail_trial "$last" ;;
     esac
     hand_out
-    if [ "$status" = 2 ] && [ -n "$shown_as" ]; then
-        point "$(cat "$room/line")" "$shown_as" "$room/source"
-    fi
+    case $status,$shown_as in
+        2,?* | 3,?*) point "$(cat "$room/line")" "$shown_as" "$room/source" ;;
+    esac
     end "$status"
 }
