@@ -65,6 +65,14 @@ site Home v = state.Home
 site Node v = state.Node v
 site Anywhere v = state.Anywhere
 
+-- what is at hand below the operand of a placement, where it has one
+abbrev pub below_operand : Placement → Hand → Hand
+below_operand p h = without (operands p) h
+
+-- nothing is at hand, and these parameters have the values of their arguments
+abbrev pub entered : List ℕ → List Val → Hand
+entered params args = record { values = []; accesses = []; vars = state.set_all params args state.unset }
+
 -- ---- works
 
 module _ (call : Caller) (n : ℕ) where

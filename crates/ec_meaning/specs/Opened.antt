@@ -1,5 +1,7 @@
 -- How the evaluator takes a work: with or without a tick it changes the hand and puts smaller works in the work's place.
 use Rattle.std.specs.Prelude.{ℕ, suc, Bool, true, false, if◌then◌else◌, List, [], ◌∷◌, Option, Some, None, pos}
+use Rattle.ec_base.specs.declared.token.Span.{Span}
+use Rattle.ec_types.specs.Meaning.Memory.{Access}
 use Rattle.ec_types.specs.Meaning.Values.{Val, Num, Null, zero_value, holds, truth, unary_value}
 use Rattle.ec_types.specs.Meaning.State.{set}
 use Rattle.ec_types.specs.Meaning.Tree as t
@@ -51,6 +53,13 @@ of_value (t.Called i) h = Call i ∷ []
 of_value (t.New at shape element n) h = part (Num (pos 1)) n ∷ Allocate at element ∷ []
 of_value (t.ValueOf at a) h = Value a ∷ LoadShared at ∷ []
 
+-- the right side of `&&` and of `||`, where it is needed
+abbrev pub of_conjunction : Bool → t.Expr → List Work
+of_conjunction left e = if left then Value e ∷ AsTruth ∷ [] else Constant (Num (pos 0)) ∷ []
+
+abbrev pub of_disjunction : Bool → t.Expr → List Work
+of_disjunction left e = if left then Constant (Num (pos 1)) ∷ [] else Value e ∷ AsTruth ∷ []
+
 -- an access spends the ticks of its nodes itself
 abbrev pub value_ticks : t.Expr → Bool
 value_ticks (t.Load pointer p) = false
@@ -77,6 +86,10 @@ abbrev pub of_assignment : t.Assignment → List Work
 of_assignment (t.SetVar at x e) = Value e ∷ SetTo x ∷ []
 of_assignment (t.Store p e) = Reach p ∷ Value e ∷ SaveTo ∷ []
 of_assignment (t.Copy p q) = Reach p ∷ Reach q ∷ CopyTo ∷ []
+
+-- the body of a function
+abbrev pub of_function : t.Function → List Work
+of_function f = Declare f.decls ∷ Statements f.body ∷ []
 
 -- a variable is unset in its own initialiser
 abbrev pub of_declarations : List t.Decl → List Work
@@ -107,9 +120,13 @@ abbrev pub of_statements : t.Stmts → List Work
 of_statements t.End = []
 of_statements (t.Then s ss) = Statement s ∷ Statements ss ∷ []
 
+-- one that is its call's activation is a statement
+abbrev pub branch : t.Stmt → Work
+branch s = if is_call_branch s then Statement s else Branch s
+
 abbrev pub of_branches : t.Stmts → List Work
 of_branches t.End = []
-of_branches (t.Then s ss) = (if is_call_branch s then Statement s else Branch s) ∷ Branches ss ∷ []
+of_branches (t.Then s ss) = branch s ∷ Branches ss ∷ []
 
 abbrev pub of_decision : Bool → t.Stmt → t.Else → List Work
 of_decision true s z = Statement s ∷ []
@@ -129,6 +146,10 @@ of_repetition (WhileLoop e s) = Statement s ∷ Turn (WhileLoop e s) ∷ []
 of_repetition (ForLoop e None s) = Statement s ∷ Turn (ForLoop e None s) ∷ []
 of_repetition (ForLoop e (Some a) s) = Statement s ∷ Assign a ∷ Turn (ForLoop e (Some a) s) ∷ []
 of_repetition (ForallLoop e a s) = Branch s ∷ Assign a ∷ Turn (ForallLoop e a s) ∷ []
+
+-- a field of the element behind a pointer
+abbrev pub behind : Span → ℕ → t.FieldAt → Val → Access
+behind at size f base = field_of at f (element_of at size base zero_value)
 
 -- ---- works that only open or touch the hand
 
@@ -152,14 +173,12 @@ opened (Reach p) h births = spending (of_place p) h
 opened (Arguments es) h births = freely (of_arguments es) h
 opened (Call i) h births = freely (of_call i) h
 opened (Operate op) h births = freely [] (replaced 1 (unary_value op (top h)) h)
-opened (AndThen e) h births =
-    freely (if holds (top h) then Value e ∷ AsTruth ∷ [] else Constant (Num (pos 0)) ∷ []) (without 1 h)
-opened (OrElse e) h births =
-    freely (if holds (top h) then Constant (Num (pos 1)) ∷ [] else Value e ∷ AsTruth ∷ []) (without 1 h)
+opened (AndThen e) h births = freely (of_conjunction (holds (top h)) e) (without 1 h)
+opened (OrElse e) h births = freely (of_disjunction (holds (top h)) e) (without 1 h)
 opened AsTruth h births = freely [] (replaced 1 (truth (holds (top h))) h)
 opened (ToElement at size) h births = freely [] (reached (element_of at size (second h) (top h)) (without 2 h))
 opened (ToBehind at size f) h births =
-    freely [] (reached (field_of at f (element_of at size (top h) zero_value)) (without 1 h))
+    freely [] (reached (behind at size f (top h)) (without 1 h))
 opened (ToField at f) h births = freely [] (reached (field_of at f (access h)) (left_behind 1 h))
 opened (ToItem at) h births = freely [] (reached (item_of at (access h) (top h)) (left_behind 1 (without 1 h)))
 opened Drop h births = freely [] (without 1 h)

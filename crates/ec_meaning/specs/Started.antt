@@ -5,11 +5,11 @@ use Rattle.ec_meaning.specs.declared.machine.Machine.{Machine}
 use Rattle.ec_meaning.specs.declared.meant.Meant.{Meant}
 use Rattle.ec_meaning.specs.declared.meant.MeantEnd.{MeantEnd}
 use Rattle.ec_meaning.specs.Seen.{Untold, works, hand}
-use Rattle.ec_meaning.specs.Works as w
+use Rattle.ec_meaning.specs.Acts.{entered}
+use Rattle.ec_meaning.specs.Opened.{of_function}
 use Rattle.ec_resolve.specs.declared.action.Function.{Function}
 use Rattle.ec_resolve.specs.Erased as erased
 use Rattle.ec_types.specs.Meaning.Values.{Num}
-use Rattle.ec_types.specs.Meaning.State.{set_all, unset}
 
 -- main's activation is open
 pub record OfMain (c : Core) : Type 0 where
@@ -21,8 +21,8 @@ pub record OfMain (c : Core) : Type 0 where
 -- main's body runs with these arguments
 pub record Starts (functions : List Function) (main : Function) (args : List ℤ) (ticks : ℕ) (x : Machine) : Type 0 where
   pub functions_are : x.functions.now ≡ functions
-  pub works : (u : Untold) → works u x.running.works ≡ w.Declare (erased.function main).decls ∷ w.Statements (erased.function main).body ∷ []
-  pub hand : (u : Untold) → hand u x.running.hand ≡ record { values = []; accesses = []; vars = set_all main.params (map Num args) unset }
+  pub works : (u : Untold) → works u x.running.works ≡ of_function (erased.function main)
+  pub hand : (u : Untold) → hand u x.running.hand ≡ entered main.params (map Num args)
   pub waiting : x.waiting ≡ []
   pub core : OfMain x.core
   pub left : x.ticks ≡ ticks

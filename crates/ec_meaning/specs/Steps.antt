@@ -121,3 +121,13 @@ pub record Ends (s : Source) (args : List ℤ) (pointer : Bool) (total : ℕ) (n
   pub reached : Reaches s args pointer total old
   pub stepped : Steps pointer old new last
   pub ends : last ≡ step.On → ⊥
+
+-- from wherever this was reached it ended so
+abbrev pub RunsTo : Machine → Machine → Step → Type 0
+RunsTo old new last =
+    (s : Source) (args : List ℤ) (pointer : Bool) (total : ℕ) → Reaches s args pointer total old → Ends s args pointer total new last
+
+-- what holds of each source and arguments whose machine ended so with so many ticks
+abbrev pub EndedSo : ℕ → Machine → Step → (Source → List ℤ → Type 0) → Type 0
+EndedSo total x last Holds =
+    (s : Source) (args : List ℤ) (pointer : Bool) → Ends s args pointer total x last → Holds s args

@@ -5,6 +5,7 @@ ghost use Rattle.ec_types.specs.Meaning.State as state;
 ghost use Rattle.ec_meaning.specs.Activations.{Enters};
 ghost use Rattle.ec_meaning.specs.Acts as acts;
 ghost use Rattle.ec_meaning.specs.Handled.{Becomes};
+ghost use Rattle.ec_meaning.specs.Opened as opened;
 ghost use Rattle.ec_meaning.specs.Seen as seen;
 ghost use Rattle.ec_meaning.specs.Seen.{Untold, val};
 ghost use Rattle.ec_meaning.specs.Works as works;
@@ -67,7 +68,7 @@ impl Hand {
 
     /// Without the placement's operand, where there is one.
     fn pop_operand(&mut self, placement: Placement)
-        ensures { Becomes (λ u h. acts.without (acts.operands (seen.placement u placement)) h) self.old self.new }
+        ensures { Becomes (λ u h. acts.below_operand (seen.placement u placement) h) self.old self.new }
     {
         if placement.has_operand() {
             self.pop();
@@ -88,8 +89,8 @@ impl Hand {
         placement: Placement,
         count: usize,
     ) -> Result<Vec<Value>, AllocError>
-        ensures args { IfOk result (λ vs. (u : Untold) → map (val u) vs.items ≡ acts.last_values count (acts.without (acts.operands (seen.placement u placement)) (seen.hand u self.old))) }
-        ensures rest { OnOk result ((u : Untold) → seen.hand u self.new ≡ acts.without count (acts.without (acts.operands (seen.placement u placement)) (seen.hand u self.old))) }
+        ensures args { IfOk result (λ vs. (u : Untold) → map (val u) vs.items ≡ acts.last_values count (acts.below_operand (seen.placement u placement) (seen.hand u self.old))) }
+        ensures rest { OnOk result (Becomes (λ u h. acts.without count (acts.below_operand (seen.placement u placement) h)) self.old self.new) }
     {
         self.pop_operand(placement);
         self.take_values(count)
@@ -97,7 +98,7 @@ impl Hand {
 
     /// Parameters have the values of their arguments; those without one are 0.
     fn with_arguments(alloc: Global, params: &[usize], args: &[Value]) -> Result<Hand, AllocError>
-        ensures { IfOk result (λ h. (u : Untold) → seen.hand u h ≡ record { values = []; accesses = []; vars = state.set_all params.now (map (val u) args.now) state.unset }) }
+        ensures { IfOk result (λ h. (u : Untold) → seen.hand u h ≡ acts.entered params.now (map (val u) args.now)) }
     {
         let mut hand = Hand::with_vars(alloc, Vec::new(alloc));
         for i in 0..params.len().min(args.len()) {
@@ -114,8 +115,8 @@ impl<'a> Frame<'a> {
         function: &'a Function,
         args: &[Value],
     ) -> Result<Frame<'a>, AllocError>
-        ensures works { IfOk result (λ f. (u : Untold) → seen.works u f.works ≡ works.Declare (erased.function function.now).decls ∷ works.Statements (erased.function function.now).body ∷ []) }
-        ensures hand { IfOk result (λ f. (u : Untold) → seen.hand u f.hand ≡ record { values = []; accesses = []; vars = state.set_all function.now.params (map (val u) args.now) state.unset }) }
+        ensures works { IfOk result (λ f. (u : Untold) → seen.works u f.works ≡ opened.of_function (erased.function function.now)) }
+        ensures hand { IfOk result (λ f. (u : Untold) → seen.hand u f.hand ≡ acts.entered function.now.params (map (val u) args.now)) }
     {
         let hand = Hand::with_arguments(alloc, function.params.as_slice(), args)?;
         let mut works = Stack::new(alloc);

@@ -1,63 +1,22 @@
 //! Branches of parallel sequences: which of them are their calls' activations.
-ghost use Rattle.std.specs.Prelude.{◌≡◌, if◌then◌else◌, OnOk};
+ghost use Rattle.std.specs.Prelude.{◌≡◌, OnOk};
 ghost use Rattle.ec_resolve.specs.Erased as erased;
 ghost use Rattle.ec_types.specs.Meaning.Branches as branches;
 ghost use Rattle.ec_meaning.specs.Opened as opened;
 ghost use Rattle.ec_meaning.specs.Handled.{Puts};
 ghost use Rattle.ec_meaning.specs.Seen as seen;
 ghost use Rattle.ec_meaning.specs.Seen.{Untold};
-ghost use Rattle.ec_meaning.specs.Works as works;
 
 use crate::hand::Frame;
 use crate::work::Work;
-use ec_resolve::{Action, Assignment, Invocation, Placing, Term};
+use ec_resolve::{Action, Assignment, Term};
 use std::alloc::AllocError;
-
-/// Only variables, numbers, NULL, `&x` and operators on values.
-fn is_plain(e: &Term) -> bool
-    ensures { result ≡ branches.is_plain (erased.expression e.now) }
-{
-    match e {
-        Term::Number(_, _) | Term::Nil(_) | Term::Var(_, _) => true,
-        Term::Unary(_, _, operand) => is_plain(operand.get()),
-        Term::Binary(_, _, left, right) => is_plain(left.get()) && is_plain(right.get()),
-        Term::And(_, left, right) => is_plain(left.get()) && is_plain(right.get()),
-        Term::Or(_, left, right) => is_plain(left.get()) && is_plain(right.get()),
-        Term::Load(_, _) | Term::Call(_) | Term::New(_) | Term::ValueOf(_, _) => false,
-    }
-}
-
-fn are_plain(es: &[Term]) -> bool
-    ensures { result ≡ branches.are_plain (erased.expressions es.now) }
-{
-    for e in es {
-        if !is_plain(e) {
-            return false;
-        }
-    }
-    true
-}
-
-fn is_plain_place(placing: &Placing) -> bool
-    ensures { result ≡ branches.is_plain_place (erased.placing placing.now) }
-{
-    match placing {
-        Placing::OwnerOf(e) | Placing::Node(e) => is_plain(e.get()),
-        Placing::Here | Placing::Home | Placing::Anywhere => true,
-    }
-}
-
-fn is_plain_call(call: &Invocation) -> bool
-    ensures { result ≡ branches.is_plain_call (erased.invocation call.now) }
-{
-    are_plain(call.args.as_slice()) && is_plain_place(&call.placing)
-}
 
 fn is_call(e: &Term) -> bool
     ensures { result ≡ branches.is_call (erased.expression e.now) }
 {
     match e {
-        Term::Call(call) => is_plain_call(call),
+        Term::Call(call) => call.is_plain(),
         _ => false,
     }
 }
@@ -67,7 +26,7 @@ fn is_call_branch(s: &Action) -> bool
     ensures { result ≡ branches.is_call_branch (erased.statement s.now) }
 {
     match s {
-        Action::Eval(call) => is_plain_call(call.get()),
+        Action::Eval(call) => call.get().is_plain(),
         Action::Set(a) => match a.get() {
             Assignment::SetVar(_, _, e) => is_call(e),
             Assignment::Store(_, _) | Assignment::Copy(_, _) => false,
@@ -89,7 +48,7 @@ impl<'a> Frame<'a> {
 }
 
 fn branch<'a>(s: &'a Action) -> Work<'a>
-    ensures { (u : Untold) → seen.work u result ≡ (if branches.is_call_branch (erased.statement s.now) then works.Statement (erased.statement s.now) else works.Branch (erased.statement s.now)) }
+    ensures { (u : Untold) → seen.work u result ≡ opened.branch (erased.statement s.now) }
 {
     if is_call_branch(s) {
         Work::Statement(s)

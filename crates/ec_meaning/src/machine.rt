@@ -5,7 +5,7 @@ ghost use Rattle.ec_meaning.specs.Activations.{Activates, Waits};
 ghost use Rattle.ec_meaning.specs.Machine as m;
 ghost use Rattle.ec_meaning.specs.Seen as seen;
 ghost use Rattle.ec_meaning.specs.Seen.{Untold};
-ghost use Rattle.ec_meaning.specs.Steps.{StepsAlways, before, Reaches, Ends};
+ghost use Rattle.ec_meaning.specs.Steps.{StepsAlways, before, RunsTo};
 ghost use Rattle.ec_meaning.specs.declared.machine.Step.TheVariants as step;
 ghost use Rattle.ec_meaning.specs.declared.work.Work.TheVariants as todo;
 
@@ -52,7 +52,7 @@ impl<'a> Machine<'a> {
     /// Takes works until the meaning ends, its ticks are spent, or it is too deep. 2^64 steps are never made; past them
     /// memory is wanted.
     pub(crate) fn run(&mut self, alloc: Global) -> Result<Step, AllocError>
-        ensures { IfOk result (λ last. (s : Source) (args : List ℤ) (pointer : Bool) (total : ℕ) → Reaches s args pointer total self.old → Ends s args pointer total self.new last) }
+        ensures { IfOk result (λ last. RunsTo self.old self.new last) }
     {
         for _ in 0..u64::MAX {
             match self.step(alloc)? {

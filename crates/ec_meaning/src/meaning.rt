@@ -8,7 +8,7 @@ ghost use Rattle.ec_meaning.specs.Last as last;
 ghost use Rattle.ec_meaning.specs.Means.{IsMeant, IsRising};
 ghost use Rattle.ec_meaning.specs.Started.{OfMain, Starts, without_output};
 ghost use Rattle.ec_meaning.specs.Seen.{Untold};
-ghost use Rattle.ec_meaning.specs.Steps.{Ends, ended};
+ghost use Rattle.ec_meaning.specs.Steps.{EndedSo, ended};
 ghost use Rattle.ec_meaning.specs.declared.value.Value.TheVariants as value;
 
 use crate::hand::Frame;
@@ -124,8 +124,8 @@ impl<'a> Machine<'a> {
 
     /// What the machine has come to, of so many ticks.
     fn meant(self, alloc: Global, step: Step, ticks: u64) -> Result<Meant, AllocError>
-        ensures meaning { (s : Source) (args : List ℤ) (pointer : Bool) → Ends s args pointer ticks self.entry step → IfOk result (IsMeant s args ticks) }
-        ensures rising { (s : Source) (args : List ℤ) (pointer : Bool) → Ends s args pointer ticks self.entry step → IfOk result (λ m. IsRising m.store) }
+        ensures meaning { EndedSo ticks self.entry step (λ s args. IfOk result (IsMeant s args ticks)) }
+        ensures rising { EndedSo ticks self.entry step (λ s args. IfOk result (λ m. IsRising m.store)) }
     {
         let spent = ticks.saturating_sub(self.ticks);
         if let Step::TooDeep = step {

@@ -8,7 +8,8 @@ ghost use Rattle.ec_meaning.specs.Acts as acts;
 ghost use Rattle.ec_meaning.specs.Acts.{top, second, without, replaced, reached, left_behind, with_vars};
 ghost use Rattle.ec_meaning.specs.Handled.{Becomes, Puts};
 ghost use Rattle.ec_meaning.specs.Seen.{Untold, val, hand};
-ghost use Rattle.ec_meaning.specs.Works as works;
+ghost use Rattle.ec_meaning.specs.Opened as opened;
+ghost use Rattle.ec_meaning.specs.Opened.{behind};
 
 use crate::hand::{Frame, Hand};
 use crate::operators::{truth, unary};
@@ -58,7 +59,7 @@ impl Hand {
     }
 
     pub(crate) fn to_behind(&mut self, at: Span, size: u32, field: Extent) -> Result<(), AllocError>
-        ensures { OnOk result (Becomes (λ u h. reached (field_of at (erased.field field) (element_of at size (top h) zero_value)) (without 1 h)) self.old self.new) }
+        ensures { OnOk result (Becomes (λ u h. reached (behind at size (erased.field field) (top h)) (without 1 h)) self.old self.new) }
     {
         let base = self.pop();
         let element = Access::element(at, size, base, Value::Int(0));
@@ -91,7 +92,7 @@ impl Hand {
 impl<'a> Frame<'a> {
     /// The right side of `&&`, where the left one holds.
     pub(crate) fn and_then(&mut self, right: &'a Term) -> Result<(), AllocError>
-        ensures works { OnOk result (Puts (λ u h. if condition (top h) then works.Value (erased.expression right.now) ∷ works.AsTruth ∷ [] else works.Constant (Num (pos 0)) ∷ []) self.old self.new) }
+        ensures works { OnOk result (Puts (λ u h. opened.of_conjunction (condition (top h)) (erased.expression right.now)) self.old self.new) }
         ensures hand { OnOk result (Becomes (λ u h. without 1 h) self.old.hand self.new.hand) }
     {
         if self.hand.pop_condition() {
@@ -103,7 +104,7 @@ impl<'a> Frame<'a> {
 
     /// The right side of `||`, where the left one doesn't hold.
     pub(crate) fn or_else(&mut self, right: &'a Term) -> Result<(), AllocError>
-        ensures works { OnOk result (Puts (λ u h. if condition (top h) then works.Constant (Num (pos 1)) ∷ [] else works.Value (erased.expression right.now) ∷ works.AsTruth ∷ []) self.old self.new) }
+        ensures works { OnOk result (Puts (λ u h. opened.of_disjunction (condition (top h)) (erased.expression right.now)) self.old self.new) }
         ensures hand { OnOk result (Becomes (λ u h. without 1 h) self.old.hand self.new.hand) }
     {
         if self.hand.pop_condition() {

@@ -8,6 +8,7 @@ mod expression;
 mod fields;
 mod layouts;
 mod operand;
+mod plain;
 mod resolving;
 mod scope;
 mod shapes;

@@ -1,7 +1,7 @@
 use Rattle.std.proofs.Common.{◌≡◌, drop}
 use Rattle.ec_resolve.specs.Erased as erased
 use Rattle.ec_types.specs.Meaning.Branches as branches
-use Rattle.ec_meaning.proofs.branches.are_plain.Given as goal
+use Rattle.ec_resolve.proofs.plain.are_plain.Given as goal
 
 abbrev pub invariant-loop-e : goal.invariant-loop-e
 invariant-loop-e l =
