@@ -6,3 +6,9 @@ pub mod ticks
 pub mod lockstep
 -- so a typed program and its simple form mean the same
 pub mod Same
+-- simple forms keep to what their type asks for
+pub mod formed
+-- simple forms keep the counts that their programs keep
+pub mod counts
+-- what the code of the lowering puts
+pub mod puts

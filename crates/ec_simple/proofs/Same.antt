@@ -20,14 +20,14 @@ use Rattle.ec_syntax.specs.declared.item.Program.{Program as Source}
 use Rattle.ec_types.specs.Meaning.Programs.{mean}
 use Rattle.ec_types.specs.Meaning.Resolution as resolution
 
-abbrev names : Source → List Text
+abbrev pub names : Source → List Text
 names p = map (λ f. f.name.text) (functions p)
 
 each_in : (P : ℕ → Type 0) (xs : List ℕ) → Each P xs → (x : ℕ) → IsIn x xs → P x
 each_in P [] h x i = nowhere i
 each_in P (y ∷ xs) h x i = ⊎_elim (λ e. subst P e h.0) (λ j. each_in P xs h.1 x j) (head_or_tail x y xs i)
 
-has_main : (p : Source) → Main p → HasMain (names p) (resolution.program p) (resolution.main_number p)
+pub has_main : (p : Source) → Main p → HasMain (names p) (resolution.program p) (resolution.main_number p)
 has_main p m =
     let fs = resolution.program p in
     let k = resolution.main_number p in

@@ -1,4 +1,4 @@
--- Resolved trees of typed programs are sound.
+-- Resolved trees of typed programs are sound, and ints and pointers stand in them where they are asked for.
 -- what judgements without refusals say of their parts
 pub mod Right
 -- lists, and names with their numbers
@@ -8,6 +8,7 @@ pub mod Numbers
 pub mod Shapes
 -- types of values
 pub mod Types
+pub mod Points
 -- expressions
 pub mod Good
 pub mod Accesses
@@ -18,9 +19,12 @@ pub mod ExpressionFolds
 pub mod Expressions
 -- statements
 pub mod Scopes
+pub mod ShapeNumbers
 pub mod Assignments
+pub mod AssignmentKinds
+pub mod Headers
 pub mod Declarations
-pub mod Kinds
+pub mod StatementLayers
 pub mod StatementFolds
 pub mod Statements
 -- functions and programs

@@ -6,7 +6,7 @@ use Rattle.ec_simple.specs.declared.form.FuncKind.TheVariants as kind
 use Rattle.ec_simple.specs.declared.form.SField.{SField}
 use Rattle.ec_simple.specs.declared.form.SFunc.{SFunc}
 use Rattle.ec_simple.specs.declared.form.Shape.{Shape}
-use Rattle.ec_simple.specs.declared.form.Simple.{Simple}
+use Rattle.ec_simple.specs.declared.form.Form.{Form}
 use Rattle.ec_simple.specs.declared.form.SVar.{SVar}
 use Rattle.ec_simple.specs.Expressions.{Scope, of_variable}
 use Rattle.ec_simple.specs.Statements.{LowStmt, joined, low_declarations, low_stmts}
@@ -79,10 +79,10 @@ all_outlined all names fs g = []
 -- ---- programs
 
 -- of functions with these names
-abbrev pub simple_form : List Shape → List Text → List Function → Simple
+abbrev pub simple_form : List Shape → List Text → List Function → Form
 simple_form shapes names fs =
     record { shapes = shapes; funcs = all_written fs names fs (length fs) ++ all_outlined fs names fs (length fs) }
 
-abbrev pub lowered : Source → Simple
+abbrev pub lowered : Source → Form
 lowered source =
     simple_form (shapes (structs source)) (map (λ f. f.name.text) (functions source)) (resolution.program source)

@@ -9,7 +9,7 @@ use Rattle.ec_simple.specs.declared.form.SExpr.TheVariants as e
 use Rattle.ec_simple.specs.declared.form.SField.{SField}
 use Rattle.ec_simple.specs.declared.form.SFunc.{SFunc}
 use Rattle.ec_simple.specs.declared.form.Shape.{Shape}
-use Rattle.ec_simple.specs.declared.form.Simple.{Simple}
+use Rattle.ec_simple.specs.declared.form.Form.{Form}
 use Rattle.ec_simple.specs.declared.form.SPlace.{SPlace}
 use Rattle.ec_simple.specs.declared.form.SPlace.TheVariants as p
 use Rattle.ec_simple.specs.declared.form.SPlaceOf.{SPlaceOf}
@@ -167,7 +167,7 @@ unset vars x = of_var (slice_get vars x)
     of_var None = zero_value
     of_var (Some v) = first_value v.pointer
 
-module _ (s : Simple) (big : Bool) where
+module _ (s : Form) (big : Bool) where
   abbrev pub body : SCaller → ℕ → SFunc → List Val → Does (List Val)
   body call n f vs c r = results f.results (run s.shapes big call n f.body (set_all f.params vs (unset f.vars)) c r)
 
@@ -189,7 +189,7 @@ abbrev pub function_or : Option SFunc → SFunc
 function_or None = no_function
 function_or (Some f) = f
 
-abbrev pub main_number : Simple → ℕ
+abbrev pub main_number : Form → ℕ
 main_number s = or_zero (place_among (map (λ f. f.name) s.funcs) (codes "main"))
 
 abbrev pub result : Out (List Val) → Out Val
@@ -199,10 +199,10 @@ result (Traps t, c, r) = (Traps t, c, r)
 result (Going, c, r) = (Going, c, r)
 
 -- main with these arguments, within so many activations and turns
-abbrev pub run_form : Simple → List ℤ → ℕ → Out Val
+abbrev pub run_form : Form → List ℤ → ℕ → Out Val
 run_form s args k =
     result (activate true Here
     (body s true (calls s true k) k (function_or (slice_get s.funcs (main_number s))) (map Num args)) root k)
 
-abbrev pub mean : Simple → List ℤ → ℕ → Meaning
+abbrev pub mean : Form → List ℤ → ℕ → Meaning
 mean s args k = told k (run_form s args k)

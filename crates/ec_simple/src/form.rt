@@ -5,7 +5,7 @@ use ec_base::{BinOp, Boxed, List, Span, Text, UnOp};
 /// What the blocks of a program are made of, and its functions: the written ones in order, then those of branches and bodies
 /// by their start in the source.
 #[derive(Drop)]
-pub struct Simple {
+pub struct Form {
     pub shapes: List<Shape>,
     pub funcs: List<SFunc>,
 }

@@ -3,7 +3,7 @@ use Rattle.std.proofs.Common.{◌≡◌, ◌≢◌, refl, sym, ap, ◌∙◌, su
 use Rattle.ec_base.specs.declared.text.Text.{Text}
 use Rattle.ec_simple.specs.declared.form.SFunc.{SFunc}
 use Rattle.ec_simple.specs.declared.form.Shape.{Shape}
-use Rattle.ec_simple.specs.declared.form.Simple.{Simple}
+use Rattle.ec_simple.specs.declared.form.Form.{Form}
 use Rattle.ec_simple.specs.declared.form.SVar.{SVar}
 use Rattle.ec_simple.specs.Expressions.{Scope, of_variable, no_function}
 use Rattle.ec_simple.specs.Lower.{scope_of, result_variable, own_variables, low_body, written, all_written, all_outlined, simple_form}
@@ -62,7 +62,7 @@ found p (name ∷ names) (f ∷ fs) funcs (suc i) j g e l h k =
       holds = r.holds;
     }
 
-written_length : (p : List Function) (names : List Text) (fs : List Function) (g : ℕ) → length names ≡ length fs →
+pub written_length : (p : List Function) (names : List Text) (fs : List Function) (g : ℕ) → length names ≡ length fs →
     length (all_written p names fs g) ≡ length fs
 written_length p [] [] g e = refl
 written_length p [] (f ∷ fs) g e = absurd (omega (arith, e))
@@ -159,7 +159,7 @@ results_alike p name f g sc us k (Going, c, r) (Going, d, q) first s = s
 results_alike p name f g sc us k x y first s = absurd s
 
 module _ (shapes : List Shape) (names : List Text) (fs : List Function) where
-  abbrev form : Simple
+  abbrev form : Form
   form = simple_form shapes names fs
 
   -- calls within b ticks, with room for n and sn

@@ -44,6 +44,16 @@ module _ (shapes : List Shape) (c : Scope) (more : List Use) (x : Stmt) (sc : Li
       (used_either y more (outside (declares x) all_uses)
       (numbers_used (length c.variables) (more ++ outside (declares x) all_uses) y h))
 
+  pub outside_reads_in : (y : ℕ) → IsUsed y (outside (declares x) (stmt_reads x)) → IsIn y sc
+  outside_reads_in y h =
+      let r = outside_used (declares x) (stmt_reads x) y h in
+      known_in y (stmt_reads_known shapes c false sc x sound y r.0) r.1
+
+  pub outside_writes_in : (y : ℕ) → IsUsed y (outside (declares x) (stmt_writes x)) → IsIn y sc
+  outside_writes_in y h =
+      let r = outside_used (declares x) (stmt_writes x) y h in
+      known_in y (stmt_writes_known shapes c false sc x sound y r.0) r.1
+
   copies : (y : ℕ) → IsUsed y all_uses → IsIn y sc → IsIn y ins
   copies y h i =
       in_numbers (length c.variables) (more ++ outside (declares x) all_uses) y (below y i)

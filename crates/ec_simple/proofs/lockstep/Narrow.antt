@@ -27,7 +27,7 @@ module _ (shapes : List Shape) (c : Scope) (place : ℕ → ℕ) where
 
   -- ---- what doesn't speak of numbers
 
-  pointer_same : (e : Expr) → pointer moved e ≡ pointer c e
+  pub pointer_same : (e : Expr) → pointer moved e ≡ pointer c e
   pointer_same (Number at n) = refl
   pointer_same (Nil at) = refl
   pointer_same (Var at x) = refl
@@ -40,13 +40,13 @@ module _ (shapes : List Shape) (c : Scope) (place : ℕ → ℕ) where
   pointer_same (New at shape element count) = refl
   pointer_same (ValueOf at a) = refl
 
-  behind_same : (e : Expr) → behind shapes moved e ≡ behind shapes c e
+  pub behind_same : (e : Expr) → behind shapes moved e ≡ behind shapes c e
   behind_same e = ap (λ q. behind_pointer q) (pointer_same e)
     where
       behind_pointer : Option ℕ → Shape
       behind_pointer q = shape_at shapes (or_zero q)
 
-  reached_same : (p : Place) → reached shapes moved p ≡ reached shapes c p
+  pub reached_same : (p : Place) → reached shapes moved p ≡ reached shapes c p
   reached_same (Element at size base index) = behind_same base
   reached_same (Behind at size f base) = behind_same base
   reached_same (Field at f p) = reached_same p

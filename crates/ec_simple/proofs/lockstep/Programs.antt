@@ -28,7 +28,7 @@ use Rattle.std.proofs.lemmas.Option.{get_or_from_slice_get}
 
 -- ---- the number of main
 
-place_front : (xs ys : List Text) (name : Text) (m : ℕ) → place_among xs name ≡ Some m →
+pub place_front : (xs ys : List Text) (name : Text) (m : ℕ) → place_among xs name ≡ Some m →
     place_among (xs ++ ys) name ≡ Some m
 place_front [] ys name m h = absurd (true≢false (ap is_some (sym h)))
 place_front (x ∷ xs) ys name m h =
@@ -41,7 +41,7 @@ place_front (x ∷ xs) ys name m h =
     go false None e h more = absurd (true≢false (ap is_some (sym h)))
     go false (Some n) e h more = ap (option_map suc) (more n e) ∙ h
 
-place_below : (xs : List Text) (name : Text) (m : ℕ) → place_among xs name ≡ Some m → m < length xs
+pub place_below : (xs : List Text) (name : Text) (m : ℕ) → place_among xs name ≡ Some m → m < length xs
 place_below [] name m h = absurd (true≢false (ap is_some (sym h)))
 place_below (x ∷ xs) name m h = go (same_text x name) (place_among xs name) refl h (λ n i. place_below xs name n i)
   where
@@ -51,7 +51,7 @@ place_below (x ∷ xs) name m h = go (same_text x name) (place_among xs name) re
     go false None e h more = absurd (true≢false (ap is_some (sym h)))
     go false (Some n) e h more = let i : m ≡ suc n = sym (ap or_zero h) in let l = more n e in omega (arith, i, l)
 
-written_names : (p : List Function) (names : List Text) (fs : List Function) (g : ℕ) → length names ≡ length fs →
+pub written_names : (p : List Function) (names : List Text) (fs : List Function) (g : ℕ) → length names ≡ length fs →
     map (λ f. f.name) (all_written p names fs g) ≡ names
 written_names p [] [] g e = refl
 written_names p [] (f ∷ fs) g e = absurd (omega (arith, e))
@@ -144,7 +144,7 @@ pub record InLockstep (shapes : List Shape) (names : List Text) (fs : List Funct
 
 module _ (shapes : List Shape) (names : List Text) (fs : List Function) (same : length names ≡ length fs)
     (sound : SoundProgram shapes fs) (m : ℕ) (main : HasMain names fs m) (args : List ℤ) where
-  main_is : main_number (simple_form shapes names fs) ≡ m
+  pub main_is : main_number (simple_form shapes names fs) ≡ m
   main_is =
       let n = length fs in
       let ws = all_written fs names fs n in
@@ -153,7 +153,7 @@ module _ (shapes : List Shape) (names : List Text) (fs : List Function) (same : 
       (map-append (λ f. f.name) ws os ∙ ap (λ l. l ++ map (λ f. f.name) os) (written_names fs names fs n same))
       ∙ ap or_zero (place_front names (map (λ f. f.name) os) (codes "main") m main.named)
 
-  below : m < length fs
+  pub below : m < length fs
   below = let l = place_below names (codes "main") m main.named in omega (arith, l, same)
 
   abbrev stands : Found fs fs (simple_form shapes names fs).funcs m m

@@ -1,7 +1,7 @@
 -- Where a statement stands: the numbers of its variables, what is in scope, and room; and what its code leaves.
 use Rattle.std.proofs.Common.{◌≡◌, ◌≢◌, refl, sym, ap, ◌∙◌, subst, ℕ, ◌≤◌, ◌<◌, ◌⊎◌, inl, inr, ⊎_elim, Bool, true, false, List, [], ◌∷◌, ◌++◌, length, arith, ℤ}
 use Rattle.ec_base.specs.declared.token.Span.{Span}
-use Rattle.ec_simple.specs.declared.form.Simple.{Simple}
+use Rattle.ec_simple.specs.declared.form.Form.{Form}
 use Rattle.ec_simple.specs.declared.form.SCall.{SCall}
 use Rattle.ec_simple.specs.declared.form.SStmt.TheOpen.{SStmt-F}
 use Rattle.ec_simple.specs.declared.form.SStmt.{SStmt}
@@ -18,13 +18,13 @@ use Rattle.ec_types.specs.Meaning.Tree.{Expr, Part, Place, Exprs, Placing, Invok
 use Rattle.ec_types.specs.Meaning.Values.{Val, Num}
 
 -- calls of both sides are alike, within so many ticks
-abbrev pub Good : Simple → Scope → Caller → ℕ → Type 0
+abbrev pub Good : Form → Scope → Caller → ℕ → Type 0
 Good form base call bound = (sn j : ℕ) → j ≤ bound → j ≤ sn → GoodCalls base.functions call (calls form true sn) j
 
 -- What stays the same throughout a function: the form, what is known of the function, what calls do, how many turns there
 -- may be, and the number of ticks within which calls are alike.
 pub record Setting : Type 0 where
-  pub form : Simple
+  pub form : Form
   pub base : Scope
   pub call : Caller
   pub n : ℕ

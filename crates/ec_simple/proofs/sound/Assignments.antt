@@ -39,10 +39,10 @@ use Rattle.ec_simple.proofs.sound.Variables.{InScope}
 -- ---- what is set
 
 -- the sides of an assignment: what is set is a place, and no array
-record Sides (l r : Part) (t u : ExprType) : Type 0 where
-  left : l.is ≡ Ok t
-  right : r.is ≡ Ok u
-  is_place : parts.is_place l.form ≡ true
+pub record Sides (l r : Part) (t u : ExprType) : Type 0 where
+  pub left : l.is ≡ Ok t
+  pub right : r.is ≡ Ok u
+  pub is_place : parts.is_place l.form ≡ true
 
 element_is : (l : Part) (t : ExprType) → element l ≡ Ok t → l.is ≡ Ok t
 element_is l t e =
@@ -51,7 +51,7 @@ element_is l t e =
     let first = h.first in
     valued_is l t cc
 
-sides_are : (l r : Part) (p : ExprType × ExprType) → sides l r ≡ Ok p → Sides l r p.0 p.1
+pub sides_are : (l r : Part) (p : ExprType × ExprType) → sides l r ≡ Ok p → Sides l r p.0 p.1
 sides_are l r p e =
     let set = both_left (set_place l) (parts.valued r) p e in
     record {
@@ -84,17 +84,18 @@ module _ (ss : List StructDef) (c : Scope) (sc : List ℕ) where
 
   module _ (f g : parts.Form) (t u : ExprType) (l r : Resolved) (left : Good ss c sc f t l) (right : Good ss c sc g u r)
       (fits : assignable t u ≡ true) (is_place : parts.is_place f ≡ true) where
+    pub variable_is_single : (x : Span × ℕ) → variable_in l.form ≡ Some x → is_struct t ≡ false
+    variable_is_single x e =
+        let plain : is_access l.form ≡ false = no_variable l.form x e in
+        no_other (is_struct t) (λ k. true≢false (sym (left.access (or_left (is_struct t) _ k)) ∙ plain))
+
     set_variable :
         (x : Span × ℕ) → variable_in l.form ≡ Some x →
         SoundAssignment (shapes ss) c sc (SetVar x.0 x.1 (resolution.value r))
-    set_variable x e =
-        let plain : is_access l.form ≡ false = no_variable l.form x e in
-        let single : is_struct t ≡ false =
-        no_other (is_struct t) (λ k. true≢false (sym (left.access (or_left (is_struct t) _ k)) ∙ plain)) in
-        (left.set x e, right.sound (assigned_values t u fits single).right)
+    set_variable x e = (left.set x e, right.sound (assigned_values t u fits (variable_is_single x e)).right)
 
     module _ (none : variable_in l.form ≡ None) where
-      access : is_access l.form ≡ true
+      pub access : is_access l.form ≡ true
       access = is_there (is_access l.form) (λ k. true≢false (sym (left.left is_place k) ∙ ap is_some none))
 
       set_access :
@@ -102,10 +103,11 @@ module _ (ss : List StructDef) (c : Scope) (sc : List ℕ) where
           SoundAssignment (shapes ss) c sc
           (if b then Copy (place l) (place r) else Store (place l) (resolution.value r))
       set_access true e =
-          (left.stands access, right.stands (right.access (or_left (is_struct u) _ (assigned_structs t u fits e))))
+          let r = right.stands (right.access (or_left (is_struct u) _ (assigned_structs t u fits e))) in
+          ((left.stands access).sound, r.sound)
       set_access false e =
           let stand = assigned_values t u fits e in
-          (left.stands access, value_access l.form access (left.sound stand.left), right.sound stand.right)
+          ((left.stands access).sound, value_access l.form access (left.sound stand.left), right.sound stand.right)
 
     set_sound :
         (o : Option (Span × ℕ)) → variable_in l.form ≡ o → SoundAssignment (shapes ss) c sc (resolution.assigned l r)
@@ -179,19 +181,36 @@ module _ (ss : List StructDef) (fs : List Func) (vs : List Decl) (c : Scope) (pr
 
   -- ---- assignments
 
-  pub assignment_sound :
-      (at : Span) (a : Assign) → assigned x at a ≡ Ok tt → SoundAssignment (shapes ss) c sc (resolution.assignment s a)
-  assignment_sound at a e =
+  -- the sides of a right assignment
+  pub record Fits (a : Assign) : Type 0 where
+    pub t : ExprType
+    pub u : ExprType
+    pub sides : Sides (judged x a.left) (judged x a.right) t u
+    pub fits : assignable t u ≡ true
+
+  pub assignment_fits : (at : Span) (a : Assign) → assigned x at a ≡ Ok tt → Fits a
+  assignment_fits at a e =
       let l = judged x a.left in
       let r = judged x a.right in
       let local = is_local_variable x l.form in
       let h = then_right (sides l r) (λ p. fits_into x at p.0 local r p.1) tt e in
-      let k = sides_are l r h.a h.first in
-      let right = must_hold (assignable h.a.0 h.a.1) Mismatch at
-      (fine_left (must (assignable h.a.0 h.a.1) Mismatch at)
-      (stays_local (not local || is_local x r.form) r.at h.a.1) h.next) in
-      assigned_sound ss c sc l.form r.form h.a.0 h.a.1 (resolution.resolved s a.left) (resolution.resolved s a.right)
-      (became a.left h.a.0 k.left) (became a.right h.a.1 k.right) right k.is_place
+      record {
+        t = h.a.0;
+        u = h.a.1;
+        sides = sides_are l r h.a h.first;
+        fits =
+            must_hold (assignable h.a.0 h.a.1) Mismatch at
+            (fine_left (must (assignable h.a.0 h.a.1) Mismatch at)
+            (stays_local (not local || is_local x r.form) r.at h.a.1) h.next);
+      }
+
+  pub assignment_sound :
+      (at : Span) (a : Assign) → assigned x at a ≡ Ok tt → SoundAssignment (shapes ss) c sc (resolution.assignment s a)
+  assignment_sound at a e =
+      let k = assignment_fits at a e in
+      assigned_sound ss c sc (judged x a.left).form (judged x a.right).form k.t k.u (resolution.resolved s a.left)
+      (resolution.resolved s a.right) (became a.left k.t k.sides.left) (became a.right k.u k.sides.right) k.fits
+      k.sides.is_place
 
   pub optional_sound :
       (at : Span) (o : Option Assign) → optional (assigned x at) o ≡ Ok tt →

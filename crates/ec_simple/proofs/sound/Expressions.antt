@@ -5,6 +5,9 @@ use Rattle.ec_base.specs.declared.text.Text.{Text}
 use Rattle.ec_base.specs.declared.token.Span.{Span}
 use Rattle.ec_calls.specs.Items.{function_named}
 use Rattle.ec_simple.specs.Expressions.{Scope}
+use Rattle.ec_simple.specs.Kinds.{IsInt, Kinds}
+use Rattle.ec_simple.specs.Lower.{shapes}
+use Rattle.ec_simple.specs.Sound.{Sound}
 use Rattle.ec_syntax.specs.declared.expression.Call.{Call, roll-Call}
 use Rattle.ec_syntax.specs.declared.expression.Expr.{Expr}
 use Rattle.ec_syntax.specs.declared.expression.ExprKind.{ExprKind, roll-ExprKind}
@@ -32,6 +35,7 @@ use Rattle.ec_simple.proofs.sound.Accesses.{FieldsFit}
 use Rattle.ec_simple.proofs.sound.Calls.{Becomes, CallBecomes, PlaceBecomes, FunctionsFit, GoodCall, arguments_sound, called_by}
 use Rattle.ec_simple.proofs.sound.Each.{Each}
 use Rattle.ec_simple.proofs.sound.ExpressionFolds.{of_both, judged_kind, resolved_kind, kind_parts, place_parts, call_parts, expr_parts, kind_values, place_values, call_values, expr_values, rolled_kind_parts, rolled_place_parts, rolled_call_parts, rolled_expr_parts, rolled_kind_values, rolled_place_values, rolled_call_values, rolled_expr_values}
+use Rattle.ec_simple.proofs.sound.Good.{good_int, good_pointer}
 use Rattle.ec_simple.proofs.sound.Layers.{of_number, of_null, of_unary, of_binary, of_and, of_or, of_deref, of_index, of_arrow, of_dot, of_new, of_value_of, of_call, of_variable, of_address, tested_is}
 use Rattle.ec_simple.proofs.sound.Right.{also_left, and_right, not_right}
 use Rattle.ec_simple.proofs.sound.Types.{pointer_stands, number_stands}
@@ -108,6 +112,19 @@ module _ (ss : List StructDef) (fs : List Func) (vs : List Decl) (c : Scope) (pr
       map-Expr SuchKind SuchPlace SuchCall SuchExpr ExprKind Placement Call Expr
       (λ e. e.0) (λ e. e.0) (λ e. e.0) (λ e. e.0) y
 
+  -- an int is asked
+  counted :
+      (a : SuchExpr) → tested is_number (Some (typing.judged x a.0)) ≡ Ok true →
+      Sound (shapes ss) c sc (value (resolution.resolved s a.0))
+      × (Kinds (shapes ss) c (value (resolution.resolved s a.0)) × IsInt c (value (resolution.resolved s a.0)))
+  counted a h =
+      let k = tested_is is_number (typing.judged x a.0) h in
+      let g = a.1 k.t k.is in
+      let stands = number_stands k.t k.holds in (
+        g.sound stands,
+        (g.kinds stands, good_int ss c sc (typing.judged x a.0).form k.t (resolution.resolved s a.0) g k.holds),
+      )
+
   kind_layer :
       (y : ExprKind-F SuchKind SuchPlace SuchCall SuchExpr) (at : Span) →
       Becomes ss c sc (typing.of_kind x (kind_parts x (kind_trees y)) at)
@@ -140,11 +157,11 @@ module _ (ss : List StructDef) (fs : List Func) (vs : List Decl) (c : Scope) (pr
       of_dot ss c sc program.fields x refl (typing.judged x a.0).local at f (typing.judged x a.0)
       (resolution.resolved s a.0) a.1
   kind_layer (ExprKind-F.Call k) at = of_call ss c sc at (typing.judged_call x k.0) (resolution.resolved_call s k.0) k.1
-  kind_layer (ExprKind-F.New to None element) at = of_new ss c sc x refl to (Ok true) element at Missing (λ h. tt)
+  kind_layer (ExprKind-F.New to None element) at = of_new ss c sc x refl to (Ok true) element at Missing (λ h. (tt, tt))
   kind_layer (ExprKind-F.New to (Some a) element) at =
       of_new ss c sc x refl to (tested is_number (Some (typing.judged x a.0))) element at
       (Given (value (resolution.resolved s a.0)))
-      (λ h. let k = tested_is is_number number_stands (typing.judged x a.0) h in (a.1 k.t k.is).sound k.stands)
+      (λ h. counted a h)
   kind_layer (ExprKind-F.ValueOf a) at = of_value_of ss c sc at (typing.judged x a.0) (resolution.resolved s a.0) a.1
   kind_layer (ExprKind-F.Address y) at =
       λ t e. of_address ss fs vs c program.variables sc scope in_scope at y t (variable_named scope y) refl e
@@ -153,13 +170,20 @@ module _ (ss : List StructDef) (fs : List Func) (vs : List Decl) (c : Scope) (pr
       (y : Placement-F SuchKind SuchPlace SuchCall SuchExpr) →
       PlaceBecomes ss c sc (typing.of_place x (place_parts x (place_trees y)))
       (resolution.of_place s (place_values s (place_trees y)))
-  place_layer Placement-F.Here e = tt
+  place_layer Placement-F.Here e = (tt, tt)
   place_layer (Placement-F.OwnerOf a) e =
-      let k = tested_is points pointer_stands (typing.judged x a.0) e in (a.1 k.t k.is).sound k.stands
-  place_layer Placement-F.Home e = tt
-  place_layer (Placement-F.Node a) e =
-      let k = tested_is is_number number_stands (typing.judged x a.0) e in (a.1 k.t k.is).sound k.stands
-  place_layer Placement-F.Anywhere e = tt
+      let k = tested_is points (typing.judged x a.0) e in
+      let g = a.1 k.t k.is in
+      let stands = pointer_stands k.t k.holds in (
+        g.sound stands,
+        (
+          g.kinds stands,
+          good_pointer ss c sc (typing.judged x a.0).form k.t (resolution.resolved s a.0) g k.holds,
+        ),
+      )
+  place_layer Placement-F.Home e = (tt, tt)
+  place_layer (Placement-F.Node a) e = counted a e
+  place_layer Placement-F.Anywhere e = (tt, tt)
 
   -- a call of this function with these arguments
   called_as :

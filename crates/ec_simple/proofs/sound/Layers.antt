@@ -1,14 +1,16 @@
 -- Expressions, layer by layer: what a part became, where it is right.
-use Rattle.std.proofs.Common.{◌≡◌, refl, sym, ◌∙◌, ap, subst, ℕ, ◌+◌, ◌==◌, Bool, true, false, ◌&&◌, if◌then◌else◌, List, map, Option, Some, None, is_some, Ok, ℤ, arith}
-use Rattle.std.proofs.lemmas.Bool.{false≢true, and_parts, and_from, or_right, lt-ltb}
+use Rattle.std.proofs.Common.{◌≡◌, refl, sym, ◌∙◌, ap, subst, ℕ, ◌+◌, ◌==◌, inl, inr, Bool, true, false, ◌&&◌, if◌then◌else◌, List, map, Option, Some, None, is_some, Ok, ℤ, arith}
+use Rattle.std.proofs.lemmas.Bool.{and_parts, and_from, or_right, lt-ltb}
 use Rattle.std.proofs.lemmas.Option.{none-some}
 use Rattle.ec_base.specs.declared.operator.BinOp.{BinOp}
 use Rattle.ec_base.specs.declared.operator.UnOp.{UnOp}
+use Rattle.ec_base.specs.declared.operator.UnOp.TheVariants.{Neg, Inv, Not}
 use Rattle.ec_base.specs.declared.reason.Reason.TheVariants.{SharedEscapes}
 use Rattle.ec_base.specs.declared.text.Text.{Text}
 use Rattle.ec_base.specs.declared.token.Span.{Span}
 use Rattle.ec_calls.specs.Items.{struct_named}
-use Rattle.ec_simple.specs.Expressions.{Scope}
+use Rattle.ec_simple.specs.Expressions.{Scope, pointer}
+use Rattle.ec_simple.specs.Kinds.{ForUnary, ForBinary, Kinds, KindsInt}
 use Rattle.ec_simple.specs.Lower.{shapes}
 use Rattle.ec_simple.specs.Sound.{Sound, SoundPart}
 use Rattle.ec_syntax.specs.declared.item.Func.{Func}
@@ -35,10 +37,11 @@ use Rattle.ec_types.specs.Types.{value_type, pointer_to, is_element, is_int, is_
 use Rattle.ec_simple.proofs.sound.Accesses.{FieldsFit, good_element, good_indexed, good_arrow, good_dot}
 use Rattle.ec_simple.proofs.sound.Calls.{Becomes, CallBecomes}
 use Rattle.ec_simple.proofs.sound.Each.{Each}
-use Rattle.ec_simple.proofs.sound.Good.{Good, good_plain, good_number}
+use Rattle.ec_simple.proofs.sound.Good.{Good, good_plain, good_number, good_int, good_pointer, good_shared}
+use Rattle.ec_simple.proofs.sound.Points.{Alike, operands_alike}
 use Rattle.ec_simple.proofs.sound.Right.{then_right, also_left, also_right, fine_right, both_left, both_right, not_right, then_some_is, typed_is, valued_is, shared_is}
-use Rattle.ec_simple.proofs.sound.Shapes.{base_known, fresh_element}
-use Rattle.ec_simple.proofs.sound.Types.{may_stand, operand_stands, operands_stand, scalars_stand, shared_stands, number_stands, pointed, pointer_is, single_is_not_spread}
+use Rattle.ec_simple.proofs.sound.Shapes.{base_known, shape_below, fresh_element}
+use Rattle.ec_simple.proofs.sound.Types.{operand_stands, operands_stand, scalars_stand, shared_stands, number_stands, pointed, pointer_is, single_is_not_spread}
 use Rattle.ec_simple.proofs.sound.Variables.{InScope, here, good_variable, good_address}
 
 -- ---- rules of one and of two parts
@@ -90,34 +93,45 @@ known_type ss ty e = base_is_known ss ty.base e
 
 -- ---- counts of `malloc`s
 
-pub record Counted (p : Part) : Type 0 where
+pub record Tested (test : ExprType → Bool) (p : Part) : Type 0 where
   pub t : ExprType
   pub is : p.is ≡ Ok t
-  pub stands : may_stand t ≡ true
+  pub holds : test t ≡ true
 
-pub tested_is :
-    (test : ExprType → Bool) → ((t : ExprType) → test t ≡ true → may_stand t ≡ true) → (p : Part) →
-    tested test (Some p) ≡ Ok true → Counted p
-tested_is test stands p e =
+pub tested_is : (test : ExprType → Bool) (p : Part) → tested test (Some p) ≡ Ok true → Tested test p
+tested_is test p e =
     let h = then_right (parts.valued p) (λ t. Ok (test t)) true e in
-    let holds : test h.a ≡ true = let n = h.next in cc in
-    record { t = h.a; is = valued_is p h.a h.first; stands = stands h.a holds }
+    record { t = h.a; is = valued_is p h.a h.first; holds = let n = h.next in cc }
 
 module _ (ss : List StructDef) (c : Scope) (sc : List ℕ) where
   becomes_number :
       (e : Expr) (t : ExprType) → variable_in (Plain e) ≡ None → number ≡ t → Sound (shapes ss) c sc e →
-      Good ss c sc parts.Other t (valued number e)
-  becomes_number e t no_variable is sound =
-      subst (λ u. Good ss c sc parts.Other u (valued number e)) is (good_number ss c sc e no_variable sound)
+      Kinds (shapes ss) c e → pointer c e ≡ None → Good ss c sc parts.Other t (valued number e)
+  becomes_number e t no_variable is sound kinds points =
+      subst (λ u. Good ss c sc parts.Other u (valued number e)) is (good_number ss c sc e no_variable sound kinds points)
 
   pub of_number : (n : ℤ) (at : Span) → Becomes ss c sc (part parts.Other at (Ok number)) (valued number (Number at n))
-  of_number n at t e = becomes_number (Number at n) t refl (let same : number ≡ t = cc in same) tt
+  of_number n at t e = becomes_number (Number at n) t refl (let same : number ≡ t = cc in same) tt tt refl
 
   pub of_null : (at : Span) → Becomes ss c sc (part parts.Nothing at (Ok Null)) (valued Null (Nil at))
   of_null at t e =
       let same : Null ≡ t = cc in
       subst (λ u. Good ss c sc parts.Nothing u (valued Null (Nil at))) same
-      (good_plain ss c sc parts.Nothing Null (Nil at) refl refl refl refl (λ h. tt) (λ h. absurd (false≢true h)))
+      (good_plain ss c sc parts.Nothing Null (Nil at) refl refl refl refl (λ h. tt) (λ h. tt) refl)
+
+  for_unary :
+      (op : UnOp) (form : parts.Form) (t : ExprType) (r : Resolved) → Good ss c sc form t r → operand_fits op t ≡ true →
+      ForUnary c op (value r)
+  for_unary Neg form t r g h = good_int ss c sc form t r g h
+  for_unary Inv form t r g h = good_int ss c sc form t r g h
+  for_unary Not form t r g h = tt
+
+  for_binary :
+      (op : BinOp) (f h : parts.Form) (t v : ExprType) (r s : Resolved) → Good ss c sc f t r → Good ss c sc h v s →
+      Alike op t v → ForBinary c op (value r) (value s)
+  for_binary op f h t v r s a b (inl k) = inl (good_int ss c sc f t r a k.0, good_int ss c sc h v s b k.1)
+  for_binary op f h t v r s a b (inr k) =
+      inr (k.0, good_pointer ss c sc f t r a k.1.0, good_pointer ss c sc h v s b k.1.1)
 
   pub of_unary :
       (op : UnOp) (at : Span) (p : Part) (r : Resolved) → Becomes ss c sc p r →
@@ -125,7 +139,10 @@ module _ (ss : List StructDef) (c : Scope) (sc : List ℕ) where
   of_unary op at p r becomes u e =
       let h = one_is at (unary_type op) p u e in
       let f = then_some_is (operand_fits op h.t) number u h.gives in
-      becomes_number (Unary at op (value r)) u refl f.1 ((becomes h.t h.is).sound (operand_stands op h.t f.0))
+      let g = becomes h.t h.is in
+      let stands = operand_stands op h.t f.0 in
+      becomes_number (Unary at op (value r)) u refl f.1 (g.sound stands)
+      (g.kinds stands, for_unary op p.form h.t r g f.0) refl
 
   pub of_binary :
       (op : BinOp) (at : Span) (p q : Part) (r s : Resolved) → Becomes ss c sc p r → Becomes ss c sc q s →
@@ -135,8 +152,13 @@ module _ (ss : List StructDef) (c : Scope) (sc : List ℕ) where
       let h = two_is at (binary_type op) p q u e in
       let f = then_some_is (operands_fit op h.t h.v) number u h.gives in
       let k = operands_stand op h.t h.v f.0 in
-      becomes_number (Binary at op (value r) (value s)) u refl f.1
-      ((left h.t h.left).sound k.left, (right h.v h.right).sound k.right)
+      let a = left h.t h.left in
+      let b = right h.v h.right in
+      becomes_number (Binary at op (value r) (value s)) u refl f.1 (a.sound k.left, b.sound k.right) (
+        a.kinds k.left,
+        b.kinds k.right,
+        for_binary op p.form q.form h.t h.v r s a b (operands_alike op h.t h.v f.0),
+      ) refl
 
   pub of_and :
       (at : Span) (p q : Part) (r s : Resolved) → Becomes ss c sc p r → Becomes ss c sc q s →
@@ -145,8 +167,10 @@ module _ (ss : List StructDef) (c : Scope) (sc : List ℕ) where
       let h = two_is at logic_type p q u e in
       let f = then_some_is (is_scalar h.t && is_scalar h.v) number u h.gives in
       let k = scalars_stand h.t h.v f.0 in
-      becomes_number (And at (value r) (value s)) u refl f.1
-      ((left h.t h.left).sound k.left, (right h.v h.right).sound k.right)
+      let a = left h.t h.left in
+      let b = right h.v h.right in
+      becomes_number (And at (value r) (value s)) u refl f.1 (a.sound k.left, b.sound k.right)
+      (a.kinds k.left, b.kinds k.right) refl
 
   pub of_or :
       (at : Span) (p q : Part) (r s : Resolved) → Becomes ss c sc p r → Becomes ss c sc q s →
@@ -155,52 +179,56 @@ module _ (ss : List StructDef) (c : Scope) (sc : List ℕ) where
       let h = two_is at logic_type p q u e in
       let f = then_some_is (is_scalar h.t && is_scalar h.v) number u h.gives in
       let k = scalars_stand h.t h.v f.0 in
-      becomes_number (Or at (value r) (value s)) u refl f.1
-      ((left h.t h.left).sound k.left, (right h.v h.right).sound k.right)
+      let a = left h.t h.left in
+      let b = right h.v h.right in
+      becomes_number (Or at (value r) (value s)) u refl f.1 (a.sound k.left, b.sound k.right)
+      (a.kinds k.left, b.kinds k.right) refl
 
   pub of_deref :
       (local : Bool) (at : Span) (p : Part) (r : Resolved) → Becomes ss c sc p r →
       Becomes ss c sc (access local at (by_one at pointee p)) (element_at ss at r Missing)
   of_deref local at p r becomes u e =
       let h = one_is at pointee p u e in
-      good_element ss c sc at p.form h.t u r Missing h.gives (becomes h.t h.is) tt
+      good_element ss c sc at p.form h.t u r Missing h.gives (becomes h.t h.is) tt tt
 
   -- an index is an int
-  index_stands :
+  index_is_int :
       (n : ExprType) (o : Option ExprType) (u : ExprType) (b : Bool) → is_number n ≡ b →
-      (if b then o else None) ≡ Some u → may_stand n ≡ true
-  index_stands n o u true h e = number_stands n h
-  index_stands n o u false h e = absurd (none-some u e)
+      (if b then o else None) ≡ Some u → is_number n ≡ true
+  index_is_int n o u true h e = h
+  index_is_int n o u false h e = absurd (none-some u e)
 
   pub of_index :
       (local : Bool) (at : Span) (p q : Part) (r s : Resolved) → Becomes ss c sc p r → Becomes ss c sc q s →
       Becomes ss c sc (access local at (by_two at element_type p q)) (indexed ss at r (value s))
   of_index local at p q r s left right u e =
       let h = two_is at element_type p q u e in
-      good_indexed ss c sc at p.form h.t h.v u r (value s) h.gives (left h.t h.left)
-      ((right h.v h.right).sound (index_stands h.v (if is_array h.t then Some number else pointee h.t) u
-      (is_number h.v) refl h.gives))
+      let g = right h.v h.right in
+      let int : is_number h.v ≡ true =
+      index_is_int h.v (if is_array h.t then Some number else pointee h.t) u (is_number h.v) refl h.gives in
+      good_indexed ss c sc at p.form h.t u r (value s) (left h.t h.left) (g.sound (number_stands h.v int))
+      (g.kinds (number_stands h.v int)) (good_int ss c sc q.form h.v s g int) h.v h.gives
 
   -- ---- `malloc`
 
   new_becomes :
       (at : Span) (v : ValueType) (count : PartOf) → is_element v ≡ true → base_known ss v.base ≡ true →
-      SoundPart (shapes ss) c sc count →
+      SoundPart (shapes ss) c sc count × KindsInt (shapes ss) c count →
       Good ss c sc parts.Allocation (Value (pointer_to v)) (allocated ss at v count)
-  new_becomes at v count element k sound =
+  new_becomes at v count element k counts =
       let pointer : is_pointer (pointer_to v) ≡ true =
       and_from (is_element v) _ element (lt-ltb 0 (v.stars + 1) (omega arith)) in
       let back : pointed (pointer_to v) ≡ v = ap (λ n. record { base = v.base; stars = n }) (omega arith) in
       good_plain ss c sc parts.Allocation (Value (pointer_to v)) (New at (shape_of ss v) (element_cells ss v) count)
       refl refl k
       (single_is_not_spread (pointer_to v) (or_right (is_int (pointer_to v)) (is_pointer (pointer_to v)) pointer))
-      (λ h. (fresh_element ss v k, sound))
-      (λ h. sym (pointer_is ss (pointer_to v) pointer ∙ ap (λ w. Some (shape_of ss w)) back))
+      (λ h. (fresh_element ss v k, counts.0)) (λ h. (shape_below ss v k, counts.1))
+      (sym (pointer_is ss (pointer_to v) pointer ∙ ap (λ w. Some (shape_of ss w)) back))
 
   pub of_new :
       (x : Context) (same : x.structs ≡ ss) (to : Option Ty) (counts : Judged Bool) (element : Ty) (at : Span)
       (count : PartOf) →
-      (counts ≡ Ok true → SoundPart (shapes ss) c sc count) →
+      (counts ≡ Ok true → SoundPart (shapes ss) c sc count × KindsInt (shapes ss) c count) →
       Becomes ss c sc (part parts.Allocation at (new x to counts element at))
       (allocated ss at (value_type element) count)
   of_new x same to counts element at count sound u e =
@@ -225,8 +253,8 @@ module _ (ss : List StructDef) (c : Scope) (sc : List ℕ) where
 
   shared_by :
       (t u : ExprType) (b : Bool) → is_shared t ≡ b → (if b then Some number else None) ≡ Some u →
-      (may_stand t ≡ true) × (number ≡ u)
-  shared_by t u true h e = (shared_stands t h, cc)
+      (is_shared t ≡ true) × (number ≡ u)
+  shared_by t u true h e = (h, cc)
   shared_by t u false h e = absurd (none-some u e)
 
   pub of_value_of :
@@ -238,7 +266,10 @@ module _ (ss : List StructDef) (c : Scope) (sc : List ℕ) where
       let h = then_right (parts.shared p) (λ t. typed at (if is_shared t then Some number else None)) u e in
       let f =
       shared_by h.a u (is_shared h.a) refl (typed_is at (if is_shared h.a then Some number else None) u h.next) in
-      becomes_number (ValueOf at (value r)) u refl f.1 ((becomes h.a (shared_is p h.a h.first)).sound f.0)
+      let g = becomes h.a (shared_is p h.a h.first) in
+      let stands = shared_stands h.a f.0 in
+      becomes_number (ValueOf at (value r)) u refl f.1 (g.sound stands)
+      (g.kinds stands, good_shared ss c sc p.form h.a r g f.0) refl
 
   -- ---- calls
 
@@ -248,7 +279,8 @@ module _ (ss : List StructDef) (c : Scope) (sc : List ℕ) where
   of_call at j x becomes t e =
       let g = becomes t e in
       subst (λ u. Good ss c sc parts.Other t (valued u (Called x.0))) (sym g.type)
-      (good_plain ss c sc parts.Other t (Called x.0) refl refl g.known g.single (λ h. (g.call, g.gives h)) g.points)
+      (good_plain ss c sc parts.Other t (Called x.0) refl refl g.known g.single (λ h. (g.call, g.gives h))
+      (λ h. g.kinds) g.points)
 
   -- ---- fields
 
@@ -299,15 +331,16 @@ module _ (ss : List StructDef) (fs : List Func) (vs : List Decl) (c : Scope)
       subst (λ u. Good ss c sc (parts.Variable x) u (named s at (variable_is s x) x)) same
       (good_variable ss fs vs c variables sc scope in_scope at x d (here ss fs vs c variables sc scope in_scope x d e))
 
-  address_by : (d : Decl) (b : Bool) → (if b then Ok Shared else refused SharedEscapes at) ≡ Ok t → Shared ≡ t
-  address_by d true h = cc
-  address_by d false h = not_right h
+  address_by : (b : Bool) → (if b then Ok Shared else refused SharedEscapes at) ≡ Ok t → (b ≡ true) × (Shared ≡ t)
+  address_by true h = (refl, cc)
+  address_by false h = not_right h
 
   pub of_address :
       (o : Option Decl) → variable_named scope x ≡ o → address o x at ≡ Ok t →
       Good ss c sc parts.Other t (named s at Shared x)
   of_address None e h = not_right h
   of_address (Some d) e h =
-      let same : Shared ≡ t = address_by d (is_shared_mode d.mode && (d.ty.stars == 0)) h in
-      subst (λ u. Good ss c sc parts.Other u (named s at Shared x)) same
-      (good_address ss fs vs c variables sc scope in_scope at x d (here ss fs vs c variables sc scope in_scope x d e))
+      let k = address_by (is_shared_mode d.mode && (d.ty.stars == 0)) h in
+      subst (λ u. Good ss c sc parts.Other u (named s at Shared x)) k.1
+      (good_address ss fs vs c variables sc scope in_scope at x d (here ss fs vs c variables sc scope in_scope x d e)
+      (and_parts (is_shared_mode d.mode) (d.ty.stars == 0) k.0).0)

@@ -9,6 +9,7 @@ use Rattle.ec_base.specs.declared.token.Span.{Span}
 use Rattle.ec_calls.specs.Effects.{doing}
 use Rattle.ec_calls.specs.Items.{functions, structs, function_named}
 use Rattle.ec_simple.specs.Expressions.{Scope, no_function}
+use Rattle.ec_simple.specs.Kinds.{KindsFunction}
 use Rattle.ec_simple.specs.Lower.{shapes, scope_of}
 use Rattle.ec_simple.specs.Sound.{IsIn, SoundFunction}
 use Rattle.ec_simple.specs.Uses.{declared, all_declare}
@@ -31,15 +32,16 @@ use Rattle.ec_types.specs.Statements as statements
 use Rattle.ec_types.specs.Types.{value_type}
 use Rattle.ec_simple.proofs.sound.Accesses.{FieldFits, FieldsFit}
 use Rattle.ec_simple.proofs.sound.Calls.{FunctionsFit}
-use Rattle.ec_simple.proofs.sound.Each.{Each, each_front, each_back, each_so, each_found}
+use Rattle.ec_simple.proofs.sound.Each.{Each, each_append, each_front, each_back, each_so, each_found}
 use Rattle.ec_simple.proofs.sound.Expressions.{Program, there, resolving}
-use Rattle.ec_simple.proofs.sound.Kinds.{Declaring}
+use Rattle.ec_simple.proofs.sound.StatementLayers.{Declaring}
 use Rattle.ec_simple.proofs.sound.Layers.{known_type}
 use Rattle.ec_simple.proofs.sound.Numbers.{number, numbered, number_below, read}
 use Rattle.ec_simple.proofs.sound.Once.{every_right, each_at, each_in, each_named, Parameter, start_standing, each_below}
 use Rattle.ec_simple.proofs.sound.Right.{fine_left, fine_right, must_hold}
 use Rattle.ec_simple.proofs.sound.Scopes.{IsNamed, apart}
-use Rattle.ec_simple.proofs.sound.Shapes.{base_known}
+use Rattle.ec_simple.proofs.sound.ShapeNumbers.{IsKnown, variables_below, variables_shared}
+use Rattle.ec_simple.proofs.sound.Shapes.{base_known, pointer_below}
 use Rattle.ec_simple.proofs.sound.Statements.{numbers, BodyFact, body_fact}
 
 -- ---- structs
@@ -60,6 +62,13 @@ structure_fits ss d e name f h =
           (fine_right (known ss f.ty) (must (is_field f) Mismatch f.name.at) one);
       known = known_type ss f.ty (fine_left (known ss f.ty) (must (is_field f) Mismatch f.name.at) one);
     }
+
+structure_small : (ss : List StructDef) (d : StructDef) → structure ss d ≡ Ok tt → is_small d ≡ true
+structure_small ss d e =
+    let first = distinct [] (map (λ g. g.name) d.fields) in
+    let second = must (is_small d) StructTooBig d.name.at in
+    let third = every (map (field ss) d.fields) in
+    must_hold (is_small d) StructTooBig d.name.at (fine_left second third (fine_right first (second also third) e))
 
 fields_fit : (ss : List StructDef) → every (map (structure ss) ss) ≡ Ok tt → FieldsFit ss
 fields_fit ss e s d h name f k =
@@ -136,6 +145,9 @@ module _ (ss : List StructDef) (fs : List Func) (prints : Text → Option Span)
         result = r.result;
         known = r.known;
         params = each_so (Parameter ss) (λ d. is_parameter d ≡ true) (λ d p. p.right) f.params r.params;
+        named =
+            each_named (λ d. d.name) [] f.params
+            (apart [] (map (λ d. d.name) f.params) (doing f.body).variables r.once).front;
       }
 
   module _ (fields : FieldsFit ss) (f : Func) (r : Right ss fs prints f) (name : Text) (g : ℕ) where
@@ -185,16 +197,32 @@ module _ (ss : List StructDef) (fs : List Func) (prints : Text → Option Span)
         subst (λ m. x < m) (sym (length-map vs (variable ss)))
         (each_in (λ y. y < length vs) (numbers vs vs) x (each_below vs vs named) h)
 
-    sound_function : SoundFunction (shapes ss) c function
-    sound_function =
-        let h = fact.sound false f.params (numbers vs f.params) (map (λ d. d.name) f.params) declaring r.body in
-        record {
-          below = λ x k. below x (subst (IsIn x)
-              (append_assoc function.params (map declared function.decls) (all_declare function.body)
-              ∙ ap (λ l. numbers vs f.params ++ l) fact.declares ∙ all_numbers) k);
-          decls = h.0;
-          body = h.1;
-        }
+    abbrev Fits : Type 0
+    Fits = SoundFunction (shapes ss) c function × KindsFunction (shapes ss) c function
+
+    all_known : Each (IsKnown ss) inner → Each (IsKnown ss) vs
+    all_known h =
+        each_append (IsKnown ss) f.params inner
+        (each_so (Parameter ss) (IsKnown ss) (λ d p. p.known) f.params r.params) h
+
+    function_fits : Fits
+    function_fits =
+        let h = fact.shown false f.params (numbers vs f.params) (map (λ d. d.name) f.params) declaring r.body in (
+          record {
+            below = λ x k. below x (subst (IsIn x)
+                (append_assoc function.params (map declared function.decls) (all_declare function.body)
+                ∙ ap (λ l. numbers vs f.params ++ l) fact.declares ∙ all_numbers) k);
+            decls = h.sound.0;
+            body = h.sound.1;
+          },
+          record {
+            variables = variables_below ss vs (all_known h.known);
+            shared = variables_shared ss vs;
+            result = pointer_below ss (value_type f.result) r.known;
+            decls = h.kinds.0;
+            body = h.kinds.1;
+          },
+        )
 
 -- ---- programs
 
@@ -203,6 +231,7 @@ pub record Items (ss : List StructDef) (fs : List Func) : Type 0 where
   pub prints : Text → Option Span
   pub names : distinct [] (map (λ f. f.name) fs) ≡ Ok tt
   pub fields : FieldsFit ss
+  pub small : Each (λ d. is_small d ≡ true) ss
   pub rights : Each (Right ss fs prints) fs
   pub main : list_any typing.is_main fs ≡ true
 
@@ -223,6 +252,9 @@ typed_items p t =
       prints = t.prints;
       names = fine_left a (b also d also g also h) t.fine;
       fields = fields_fit ss (fine_left d (g also h) behind_b);
+      small =
+          each_so (λ x. structure ss x ≡ Ok tt) (λ x. is_small x ≡ true) (structure_small ss) ss
+          (every_right (structure ss) ss (fine_left d (g also h) behind_b));
       rights =
           each_so (λ f. one f ≡ Ok tt) (Right ss fs t.prints) (function_right ss fs t.prints) fs
           (every_right one fs (fine_left g h behind_d));
@@ -246,16 +278,25 @@ named_variables p t f x e =
     named (structs p) (functions p) i.prints i.rights i.fields f r [] 0
 
 -- each function of a typed program keeps to what its simple form needs
-pub sound_functions :
-    (p : Source) → IsTyped p → (k : ℕ) (f : Function) → slice_get (resolution.program p) k ≡ Some f →
-    (name : Text) (g : ℕ) →
-    SoundFunction (shapes (structs p)) (scope_of (resolution.program p) name f g) f
-sound_functions p t k f e name g =
-    let i = typed_items p t in
-    let ss = structs p in
-    let fs = functions p in
-    let x =
-    some_mapped (resolution.function ss fs) (slice_get fs k) f
-    (sym (slice_get-map (resolution.function ss fs) fs k) ∙ e) in
-    subst (λ h. SoundFunction (shapes ss) (scope_of (resolution.program p) name h g) h) x.2
-    (sound_function ss fs i.prints i.rights i.fields x.0 (each_at (Right ss fs i.prints) fs k x.0 i.rights x.1) name g)
+module _ (p : Source) (t : IsTyped p) (k : ℕ) (f : Function) (e : slice_get (resolution.program p) k ≡ Some f)
+    (name : Text) (g : ℕ) where
+  abbrev scope : Function → Scope
+  scope h = scope_of (resolution.program p) name h g
+
+  functions_fit :
+      SoundFunction (shapes (structs p)) (scope f) f × KindsFunction (shapes (structs p)) (scope f) f
+  functions_fit =
+      let i = typed_items p t in
+      let ss = structs p in
+      let fs = functions p in
+      let x =
+      some_mapped (resolution.function ss fs) (slice_get fs k) f
+      (sym (slice_get-map (resolution.function ss fs) fs k) ∙ e) in
+      subst (λ h. SoundFunction (shapes ss) (scope h) h × KindsFunction (shapes ss) (scope h) h) x.2
+      (function_fits ss fs i.prints i.rights i.fields x.0 (each_at (Right ss fs i.prints) fs k x.0 i.rights x.1) name g)
+
+  pub sound_functions : SoundFunction (shapes (structs p)) (scope_of (resolution.program p) name f g) f
+  sound_functions = functions_fit.0
+
+  pub kinds_functions : KindsFunction (shapes (structs p)) (scope_of (resolution.program p) name f g) f
+  kinds_functions = functions_fit.1

@@ -1,13 +1,17 @@
 -- The shapes of a program, and their fields, against how values and elements are laid out.
-use Rattle.std.proofs.Common.{◌≡◌, refl, sym, ◌∙◌, ap, subst, ℕ, suc, ◌+◌, ◌==◌, Bool, true, false, if◌then◌else◌, List, [], ◌∷◌, ◌++◌, map, slice_get, get_or, replicate, Option, Some, None, option_map, is_some, true≢false, arith}
-use Rattle.std.proofs.lemmas.Bool.{false≢true}
-use Rattle.std.proofs.lemmas.Option.{none-some, get_or_from_slice_get}
+use Rattle.std.proofs.Common.{◌≡◌, refl, sym, ◌∙◌, ap, subst, ℕ, zero, suc, ◌+◌, ◌-◌, ◌<◌, ◌==◌, Bool, true, false, if◌then◌else◌, List, [], ◌∷◌, ◌++◌, length, map, slice_get, get_or, replicate, Option, Some, None, option_map, is_some, true≢false, arith}
+use Rattle.std.proofs.lemmas.Bool.{false≢true, lt-ltb, ne_eqb}
+use Rattle.std.proofs.lemmas.List.{length-map}
+use Rattle.std.proofs.lemmas.Option.{none-some, get_or_from_slice_get, slice_get_within}
+use Rattle.std.specs.Bool.{then_some}
 use Rattle.ec_base.specs.declared.text.Text.{Text}
 use Rattle.ec_calls.specs.Effects.{joined}
 use Rattle.ec_calls.specs.Items.{struct_named}
 use Rattle.ec_simple.specs.declared.form.SField.{SField}
+use Rattle.ec_simple.specs.declared.form.Shape.{Shape}
+use Rattle.ec_simple.specs.Kinds.{HasNumber}
 use Rattle.ec_simple.specs.Lower.{of_one_cell, fields_from, of_struct, shapes}
-use Rattle.ec_simple.specs.Meaning.{shape_or, shape_at, no_field, first_value, fresh_cells}
+use Rattle.ec_simple.specs.Meaning.{shape_or, shape_at, no_field, field_of, first_value, fresh_cells}
 use Rattle.ec_simple.specs.Sound.{HasField, whole}
 use Rattle.ec_syntax.specs.declared.item.Field.{Field}
 use Rattle.ec_syntax.specs.declared.item.StructDef.{StructDef}
@@ -16,12 +20,12 @@ use Rattle.ec_types.specs.declared.value_type.ExprType.TheVariants.{Value}
 use Rattle.ec_types.specs.declared.value_type.ValueBase.{ValueBase}
 use Rattle.ec_types.specs.declared.value_type.ValueBase.TheVariants.{Void, Int, Struct}
 use Rattle.ec_types.specs.declared.value_type.ValueType.{ValueType}
-use Rattle.ec_types.specs.Meaning.Layout.{one_or, field_cells, struct_cells, base_cells, element_cells, base_size, element_size, base_shape, shape_of, found}
+use Rattle.ec_types.specs.Meaning.Layout.{or_zero, one_or, field_cells, struct_cells, base_cells, element_cells, base_size, element_size, base_shape, shape_of, pointer_to, found}
 use Rattle.ec_types.specs.Meaning.Resolution.{is_struct, field_at}
 use Rattle.ec_types.specs.Names.{field_named}
 use Rattle.ec_types.specs.Sizes.{cells, cells_of}
-use Rattle.ec_types.specs.Types.{value_type, is_pointer}
-use Rattle.ec_simple.proofs.sound.Numbers.{number, numbered, mapped}
+use Rattle.ec_types.specs.Types.{value_type, is_element, is_pointer}
+use Rattle.ec_simple.proofs.sound.Numbers.{number, numbered, number_below, mapped}
 
 -- the struct that a type names is declared
 abbrev pub base_known : List StructDef → ValueBase → Bool
@@ -51,6 +55,51 @@ struct_shape ss s d e =
     ap shape_or
     (behind_two (of_one_cell false) (of_one_cell true) (map of_struct ss) (number text ss s)
     ∙ mapped text ss s d (numbered text ss s d e) of_struct)
+
+-- ---- shapes are there
+
+how_many : (ss : List StructDef) → length (shapes ss) ≡ suc (suc (length ss))
+how_many ss = ap (λ n. suc (suc n)) (length-map ss of_struct)
+
+pub some_shape : (ss : List StructDef) → 0 < length (shapes ss)
+some_shape ss = let many = how_many ss in omega (arith, many)
+
+below_by :
+    (ss : List StructDef) (b : Bool) (base : ValueBase) → base_known ss base ≡ true →
+    (if b then base_shape ss base else 1) < length (shapes ss)
+below_by ss false base k = let many = how_many ss in omega (arith, many)
+below_by ss true Void k = some_shape ss
+below_by ss true Int k = some_shape ss
+below_by ss true (Struct s) k =
+    let d = some_is (struct_named ss s) k in
+    let many = how_many ss in
+    let below : number text ss s < length ss = number_below text ss s d.it (numbered text ss s d.it d.is) in
+    let more : 2 + number text ss s < length (shapes ss) = omega (arith, many, below) in
+    more
+
+pub shape_below :
+    (ss : List StructDef) (v : ValueType) → base_known ss v.base ≡ true → shape_of ss v < length (shapes ss)
+shape_below ss v k = below_by ss (v.stars == 0) v.base k
+
+-- ---- what stands behind pointers
+
+some_then : {A : Type 0} (b : Bool) (x : A) → is_some (then_some b x) ≡ b
+some_then true x = refl
+some_then false x = refl
+
+pub pointer_points : (ss : List StructDef) (v : ValueType) → is_some (pointer_to ss v) ≡ is_pointer v
+pointer_points ss v = some_then (is_pointer v) (shape_of ss (record v { stars = v.stars - 1 }))
+
+then_below :
+    (ss : List StructDef) (b : Bool) (x : ℕ) → x < length (shapes ss) → or_zero (then_some b x) < length (shapes ss)
+then_below ss true x h = h
+then_below ss false x h = some_shape ss
+
+pub pointer_below :
+    (ss : List StructDef) (v : ValueType) → base_known ss v.base ≡ true →
+    or_zero (pointer_to ss v) < length (shapes ss)
+pointer_below ss v k =
+    let w = record v { stars = v.stars - 1 } in then_below ss (is_pointer v) (shape_of ss w) (shape_below ss w k)
 
 -- ---- the cells of elements
 
@@ -116,6 +165,41 @@ pub whole_element :
     HasField (shape_at (shapes ss) (shape_of ss t)) whole
 whole_element ss t e = one_field ss t.base t.stars e
 
+-- the field is there, and is a pointer or none
+pub record FieldIs (s : Shape) (k : ℕ) (pointer : Bool) : Type 0 where
+  pub number : HasNumber s k
+  pub points : (field_of s k).pointer ≡ pointer
+
+one_pointer :
+    (ss : List StructDef) (base : ValueBase) (k : ℕ) →
+    is_some (pointer_to ss (record { base = base; stars = suc k })) ≡ true →
+    FieldIs (shape_at (shapes ss) (shape_of ss (record { base = base; stars = suc k }))) 0
+    (is_some (pointer_to ss (record { base = base; stars = suc k })))
+one_pointer ss base k h =
+    let is : shape_of ss (record { base = base; stars = suc k }) ≡ 1 =
+    ap (λ b. if b then base_shape ss base else 1) (ne_eqb (suc k) 0 (λ z. omega (arith, z))) in
+    subst (λ n. FieldIs (shape_at (shapes ss) n) 0 (is_some (pointer_to ss (record { base = base; stars = suc k }))))
+    (sym is) (record { number = let one : 0 < 1 = omega arith in one; points = sym h })
+
+one_by :
+    (ss : List StructDef) (base : ValueBase) (stars : ℕ) → is_element (record { base = base; stars = stars }) ≡ true →
+    is_struct (Value (record { base = base; stars = stars })) ≡ false →
+    FieldIs (shape_at (shapes ss) (shape_of ss (record { base = base; stars = stars }))) 0
+    (is_some (pointer_to ss (record { base = base; stars = stars })))
+one_by ss Void stars e n = absurd (false≢true e)
+one_by ss Int zero e n = record { number = let one : 0 < 1 = omega arith in one; points = refl }
+one_by ss Int (suc k) e n =
+    one_pointer ss Int k (pointer_points ss (record { base = Int; stars = suc k }) ∙ lt-ltb 0 (suc k) (omega arith))
+one_by ss (Struct s) zero e n = absurd (true≢false n)
+one_by ss (Struct s) (suc k) e n =
+    one_pointer ss (Struct s) k
+    (pointer_points ss (record { base = Struct s; stars = suc k }) ∙ lt-ltb 0 (suc k) (omega arith))
+
+pub whole_field :
+    (ss : List StructDef) (t : ValueType) → is_element t ≡ true → is_struct (Value t) ≡ false →
+    FieldIs (shape_at (shapes ss) (shape_of ss t)) 0 (is_some (pointer_to ss t))
+whole_field ss t e n = one_by ss t.base t.stars e n
+
 -- ---- fields by their numbers
 
 abbrev field : ℕ → Field → SField
@@ -170,14 +254,46 @@ pub found_field :
     (d : StructDef) (name : Text) (f : Field) → field_named d.fields name ≡ Some f → Located 0 0 d.fields name f
 found_field d name f h = located 0 0 d.fields name f h
 
+there_at :
+    (d : StructDef) (name : Text) (f : Field) (l : Located 0 0 d.fields name f) →
+    slice_get (fields_from 0 d.fields) l.number ≡ Some (field l.first f)
+there_at d name f l =
+    let same_number : l.number ≡ l.k = let c = l.counted in omega (arith, c) in
+    ap (slice_get (fields_from 0 d.fields)) same_number ∙ l.there
+
+read_at :
+    (d : StructDef) (name : Text) (f : Field) (l : Located 0 0 d.fields name f) →
+    get_or (fields_from 0 d.fields) l.number no_field ≡ field l.first f
+read_at d name f l =
+    get_or_from_slice_get (fields_from 0 d.fields) l.number (field l.first f) no_field (there_at d name f l)
+
 pub has_field :
     (d : StructDef) (name : Text) (f : Field) → field_named d.fields name ≡ Some f →
     HasField (of_struct d) (field_at (found 0 0 d.fields name))
 has_field d name f h =
     let l = located 0 0 d.fields name f h in
-    let same_number : l.number ≡ l.k = let c = l.counted in omega (arith, c) in
-    let read : get_or (fields_from 0 d.fields) l.number no_field ≡ field l.first f =
-    ap (λ n. get_or (fields_from 0 d.fields) n no_field) same_number
-    ∙ get_or_from_slice_get (fields_from 0 d.fields) l.k (field l.first f) no_field l.there in
+    let read = read_at d name f l in
     subst (λ o. HasField (of_struct d) (field_at o)) (sym l.is)
     (record { first = ap (λ x. x.at) read; length = ap (λ x. x.cells) read })
+
+-- a pointer by its type, and as many cells as its array has
+pub record FieldKind (s : Shape) (k : ℕ) (f : Field) : Type 0 where
+  pub is : FieldIs s k (is_pointer (value_type f.ty))
+  pub cells : (field_of s k).cells ≡ cells_of f.array
+
+pub field_kind :
+    (d : StructDef) (name : Text) (f : Field) → field_named d.fields name ≡ Some f →
+    FieldKind (of_struct d) (field_at (found 0 0 d.fields name)).number f
+field_kind d name f h =
+    let l = located 0 0 d.fields name f h in
+    let read = read_at d name f l in
+    subst (λ o. FieldKind (of_struct d) (field_at o).number f) (sym l.is) (
+    record {
+      is =
+          record {
+            number = slice_get_within (fields_from 0 d.fields) l.number (field l.first f) (there_at d name f l);
+            points = ap (λ x. x.pointer) read;
+          };
+      cells = ap (λ x. x.cells) read;
+    }
+    )

@@ -28,7 +28,7 @@ use Rattle.ec_types.specs.Statements as typing
 use Rattle.ec_types.specs.Statements.{There}
 use Rattle.ec_simple.proofs.sound.Declarations.{declared_is}
 use Rattle.ec_simple.proofs.sound.Expressions.{Program, resolving}
-use Rattle.ec_simple.proofs.sound.Kinds.{Sounds, ElseSounds, AllSound, BodySounds, of_set, of_eval, of_write, of_add, of_print, of_return, of_if, of_while, of_for, of_forall, of_par, of_body, none_sound, more_sound}
+use Rattle.ec_simple.proofs.sound.StatementLayers.{Shows, ElseShows, AllShow, BodyShows, of_empty, no_else, of_set, of_eval, of_write, of_add, of_print, of_return, of_if, of_while, of_for, of_forall, of_par, of_body, none_shown, more_shown}
 use Rattle.ec_simple.proofs.sound.Numbers.{number}
 use Rattle.ec_simple.proofs.sound.StatementFolds.{of_four, declared_statement, judged_kind, resolved_kind, declared_kind, doing_kind, kind_judged, body_judged, stmt_judged, kind_resolved, body_resolved, stmt_resolved, kind_declared, body_declared, stmt_declared, kind_doing, body_doing, stmt_doing, rolled_kind_judged, rolled_body_judged, rolled_stmt_judged, rolled_kind_resolved, rolled_body_resolved, rolled_stmt_resolved, rolled_kind_declared, rolled_body_declared, rolled_stmt_declared, rolled_kind_doing, rolled_body_doing, rolled_stmt_doing}
 use Rattle.ec_simple.proofs.sound.Variables.{name_of}
@@ -43,17 +43,17 @@ module _ (ss : List StructDef) (fs : List Func) (vs : List Decl) (c : Scope) (pr
 
   -- a statement as it is judged, as it became, and what it declares, as variables and by names
   record Fact (j : There) (q : t.Stmt) (ds : List Decl) (n : Doing) : Type 0 where
-    sound : Sounds ss fs vs c program prints result j q ds
+    shown : Shows ss fs vs c program prints result j q ds
     declares : declares q ≡ numbers vs ds
     names : n.variables ≡ map (λ d. d.name) ds
 
   record AllFact (js : List There) (q : Stmts) (ds : List Decl) (n : Doing) : Type 0 where
-    sound : AllSound ss fs vs c program prints result js q ds
+    shown : AllShow ss fs vs c program prints result js q ds
     declares : all_declare q ≡ numbers vs ds
     names : n.variables ≡ map (λ d. d.name) ds
 
   pub record BodyFact (j : There) (b : List t.Decl × Stmts) (ds : List Decl) (n : Doing) : Type 0 where
-    pub sound : BodySounds ss fs vs c program prints result j b ds
+    pub shown : BodyShows ss fs vs c program prints result j b ds
     pub declares : map declared b.0 ++ all_declare b.1 ≡ numbers vs ds
     pub names : n.variables ≡ map (λ d. d.name) ds
 
@@ -100,16 +100,16 @@ module _ (ss : List StructDef) (fs : List Func) (vs : List Decl) (c : Scope) (pr
 
   all_facts : (xs : List SuchStmt) → AllOf xs
   unfolding AllOf
-  all_facts [] = record { sound = none_sound ss fs vs c program prints result; declares = refl; names = refl }
+  all_facts [] = record { shown = none_shown ss fs vs c program prints result; declares = refl; names = refl }
   all_facts (x ∷ xs) =
       let rest = all_facts xs in
       let ds = declared_statement x.0 in
       let es = joined (map declared_statement (trees xs)) in
       record {
-        sound =
-            more_sound ss fs vs c program prints result (typing.statement x.0) (map typing.statement (trees xs))
+        shown =
+            more_shown ss fs vs c program prints result (typing.statement x.0) (map typing.statement (trees xs))
             (resolution.statement s x.0)
-            (stmts (map (resolution.statement s) (trees xs))) ds es x.1.sound rest.sound;
+            (stmts (map (resolution.statement s) (trees xs))) ds es x.1.shown rest.shown;
         declares =
             ap₂ (λ a b. a ++ b) x.1.declares rest.declares ∙ sym
             (map-append (λ d. number name_of vs (name_of d)) ds es);
@@ -119,19 +119,19 @@ module _ (ss : List StructDef) (fs : List Func) (vs : List Decl) (c : Scope) (pr
   -- ---- the layers
 
   leaf :
-      (j : There) (q : t.Stmt) (n : Doing) → Sounds ss fs vs c program prints result j q [] → declares q ≡ [] →
+      (j : There) (q : t.Stmt) (n : Doing) → Shows ss fs vs c program prints result j q [] → declares q ≡ [] →
       n.variables ≡ [] → Fact j q [] n
-  leaf j q n sound d v = record { sound = sound; declares = d; names = v }
+  leaf j q n shown d v = record { shown = shown; declares = d; names = v }
 
   if_layer :
       (at : Span) (e : Expr) (j : There) (q : t.Stmt) (ds : List Decl) (m : Doing) (o : Option There) (z : t.Else)
       (es : List Decl) (n : Doing) →
-      Fact j q ds m → ElseSounds ss fs vs c program prints result o z es → else_declares z ≡ numbers vs es →
+      Fact j q ds m → ElseShows ss fs vs c program prints result o z es → else_declares z ≡ numbers vs es →
       n.variables ≡ map (λ d. d.name) es →
       Fact (λ x. condition x at e also j x also typing.otherwise o x) (t.If (resolution.valued_as s e) q z) (ds ++ es)
       (doing.only (doing.effects e) with m with n)
   if_layer at e j q ds m o z es n a b d v = record {
-    sound = of_if ss fs vs c program prints result at e j q ds o z es a.sound b;
+    shown = of_if ss fs vs c program prints result at e j q ds o z es a.shown b;
     declares = ap₂ (λ k l. k ++ l) a.declares d ∙ sym (map-append (λ x. number name_of vs (name_of x)) ds es);
     names = ap₂ (λ k l. k ++ l) a.names v ∙ sym (map-append (λ x. x.name) ds es);
   }
@@ -143,46 +143,47 @@ module _ (ss : List StructDef) (fs : List Func) (vs : List Decl) (c : Scope) (pr
       (resolution.declared_by_kind (kind_declared (kind_trees y)) at)
       (doing.of_statement_kind (kind_doing (kind_trees y)) at)
   unfolding AllOf
-  kind_layer StmtKind-F.Empty at = leaf (λ x. fine) t.Skip doing.nothing (λ inside scope sc before h e. tt) refl refl
-  kind_layer (StmtKind-F.Body b) at = record { sound = b.1.sound; declares = b.1.declares; names = b.1.names }
+  kind_layer StmtKind-F.Empty at =
+      leaf (λ x. fine) t.Skip doing.nothing (of_empty ss fs vs c program prints result) refl refl
+  kind_layer (StmtKind-F.Body b) at = record { shown = b.1.shown; declares = b.1.declares; names = b.1.names }
   kind_layer (StmtKind-F.Par xs) at =
       let all = all_facts xs in
       record {
-        sound =
+        shown =
             of_par ss fs vs c program prints result at (map typing.statement (trees xs))
             (stmts (map (resolution.statement s) (trees xs)))
-            (joined (map declared_statement (trees xs))) all.sound;
+            (joined (map declared_statement (trees xs))) all.shown;
         declares = all.declares;
         names = all.names;
       }
   kind_layer (StmtKind-F.If e a None) at =
       if_layer at e (typing.statement a.0) (resolution.statement s a.0) (declared_statement a.0)
       (doing.statement_doing a.0) None t.NoElse [] doing.nothing
-      a.1 (λ inside scope sc before h k. tt) refl refl
+      a.1 (no_else ss fs vs c program prints result) refl refl
   kind_layer (StmtKind-F.If e a (Some b)) at =
       if_layer at e (typing.statement a.0) (resolution.statement s a.0) (declared_statement a.0)
       (doing.statement_doing a.0)
       (Some (typing.statement b.0)) (t.Otherwise (resolution.statement s b.0)) (declared_statement b.0)
       (doing.statement_doing b.0)
-      a.1 b.1.sound b.1.declares b.1.names
+      a.1 b.1.shown b.1.declares b.1.names
   kind_layer (StmtKind-F.While e a) at = record {
-    sound =
+    shown =
         of_while ss fs vs c program prints result at e (typing.statement a.0) (resolution.statement s a.0)
-        (declared_statement a.0) a.1.sound;
+        (declared_statement a.0) a.1.shown;
     declares = a.1.declares;
     names = a.1.names;
   }
   kind_layer (StmtKind-F.For i e n a) at = record {
-    sound =
+    shown =
         of_for ss fs vs c program prints result at i e n (typing.statement a.0) (resolution.statement s a.0)
-        (declared_statement a.0) a.1.sound;
+        (declared_statement a.0) a.1.shown;
     declares = a.1.declares;
     names = a.1.names;
   }
   kind_layer (StmtKind-F.Forall i e n a) at = record {
-    sound =
+    shown =
         of_forall ss fs vs c program prints result at i e n (typing.statement a.0) (resolution.statement s a.0)
-        (declared_statement a.0) a.1.sound;
+        (declared_statement a.0) a.1.shown;
     declares = a.1.declares;
     names = a.1.names;
   }
@@ -224,9 +225,9 @@ module _ (ss : List StructDef) (fs : List Func) (vs : List Decl) (c : Scope) (pr
       let all = all_facts y.stmts in
       let es = joined (map declared_statement (trees y.stmts)) in
       record {
-        sound =
+        shown =
             of_body ss fs vs c program prints result y.decls (map typing.statement (trees y.stmts))
-            (stmts (map (resolution.statement s) (trees y.stmts))) es all.sound;
+            (stmts (map (resolution.statement s) (trees y.stmts))) es all.shown;
         declares =
             ap₂ (λ a b. a ++ b) (declared_numbers y.decls) all.declares
             ∙ sym (map-append (λ d. number name_of vs (name_of d)) y.decls es);

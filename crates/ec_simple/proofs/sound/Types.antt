@@ -96,6 +96,13 @@ stands_is_no_struct Array e = refl
 stands_is_no_struct Shared e = refl
 stands_is_no_struct SharedName e = refl
 
+pub stands_is_not_spread : (t : ExprType) → may_stand t ≡ true → is_spread t ≡ false
+stands_is_not_spread (Value v) e = single_is_not_spread v (stands_single v e)
+stands_is_not_spread Null e = refl
+stands_is_not_spread Array e = absurd (false≢true e)
+stands_is_not_spread Shared e = refl
+stands_is_not_spread SharedName e = refl
+
 pub scalar_stands : (t : ExprType) → is_scalar t ≡ true → may_stand t ≡ true
 scalar_stands t e = or_left (is_scalar t) (is_shared t) e
 

@@ -1,6 +1,6 @@
 -- Variables in scope, as expressions.
 use Rattle.std.proofs.Common.{◌≡◌, refl, sym, ◌∙◌, ap, subst, ℕ, ◌==◌, Bool, true, false, if◌then◌else◌, List, map, get_or, Option, Some, option_map, true≢false}
-use Rattle.std.proofs.lemmas.Bool.{false≢true, or_parts, or_right}
+use Rattle.std.proofs.lemmas.Bool.{false≢true, or_right}
 use Rattle.ec_base.specs.declared.text.Text.{Text}
 use Rattle.ec_base.specs.declared.token.Span.{Span}
 use Rattle.ec_simple.specs.Expressions.{Scope, variable_at, no_variable}
@@ -16,18 +16,19 @@ use Rattle.ec_syntax.specs.declared.statement.Decl.{Decl}
 use Rattle.ec_syntax.specs.Grammar.Words.{same}
 use Rattle.ec_types.specs.declared.value_type.ExprType.TheVariants.{Shared, SharedName}
 use Rattle.ec_types.specs.declared.value_type.ValueType.{ValueType}
+use Rattle.ec_types.specs.Context.{is_shared_mode}
 use Rattle.ec_types.specs.Declarations.{may_be}
-use Rattle.ec_types.specs.Meaning.Layout.{pointer_of}
 use Rattle.ec_types.specs.Meaning.Resolution as resolution
-use Rattle.ec_types.specs.Meaning.Resolution.{or_number, variable_number, variable_is, named, is_struct, variable}
+use Rattle.ec_types.specs.Meaning.Resolution.{or_number, variable_number, variable_is, named, variable}
 use Rattle.ec_types.specs.Names.{variable_named}
 use Rattle.ec_types.specs.Operators.{variable_type}
 use Rattle.ec_types.specs.Parts as parts
-use Rattle.ec_types.specs.Types.{value_type, is_int, is_pointer, of_value}
+use Rattle.ec_types.specs.Types.{value_type, is_int, is_pointer}
 use Rattle.ec_types.proofs.Places.{same_is}
 use Rattle.ec_simple.proofs.sound.Each.{Each, each_found}
-use Rattle.ec_simple.proofs.sound.Good.{Good}
+use Rattle.ec_simple.proofs.sound.Good.{Good, Holds}
 use Rattle.ec_simple.proofs.sound.Numbers.{number, numbered, read}
+use Rattle.ec_simple.proofs.sound.Points.{is_value, pointer_as}
 use Rattle.ec_simple.proofs.sound.Shapes.{base_known}
 use Rattle.ec_simple.proofs.sound.Types.{is_spread, type_known, single_is_not_spread}
 
@@ -47,7 +48,8 @@ pub record InScope (ss : List StructDef) (vs : List Decl) (sc : List ℕ) (d : D
 pub record VariableType (ss : List StructDef) (d : Decl) : Type 0 where
   pub known : type_known ss (variable_type d) ≡ true
   pub single : is_spread (variable_type d) ≡ false
-  pub points : of_value is_pointer (variable_type d) ≡ true → (variable ss d).pointer ≡ pointer_of ss (variable_type d)
+  pub points : (variable ss d).pointer ≡ pointer_as ss (variable_type d)
+  pub unshared : is_value (variable_type d) ≡ true → (variable ss d).shared ≡ false
 
 shared_known : (ss : List StructDef) (b : Bool) → type_known ss (if b then SharedName else Shared) ≡ true
 shared_known ss true = refl
@@ -57,31 +59,48 @@ shared_single : (b : Bool) → is_spread (if b then SharedName else Shared) ≡ 
 shared_single true = refl
 shared_single false = refl
 
-shared_points : {B : Type 0} (b : Bool) → of_value is_pointer (if b then SharedName else Shared) ≡ true → B
-shared_points true h = absurd (false≢true h)
-shared_points false h = absurd (false≢true h)
+shared_points : (ss : List StructDef) (b : Bool) → Some 0 ≡ pointer_as ss (if b then SharedName else Shared)
+shared_points ss true = refl
+shared_points ss false = refl
+
+shared_no_value : {B : Type 0} (b : Bool) → is_value (if b then SharedName else Shared) ≡ true → B
+shared_no_value true h = absurd (false≢true h)
+shared_no_value false h = absurd (false≢true h)
 
 variable_type_by :
     (ss : List StructDef) (name : Name) (m : Mode) (ty : Ty) (init : Option Written) (shared : ValueType) →
     may_be shared m (value_type ty) ≡ true → base_known ss (value_type ty).base ≡ true →
     VariableType ss (record { name = name; mode = m; ty = ty; init = init })
 variable_type_by ss name mode.Plain ty init shared h k =
-    record { known = k; single = single_is_not_spread (value_type ty) h; points = λ p. refl }
+    record { known = k; single = single_is_not_spread (value_type ty) h; points = refl; unshared = λ v. refl }
 variable_type_by ss name mode.Local ty init shared h k = record {
   known = k;
   single = single_is_not_spread (value_type ty) (or_right (is_int (value_type ty)) (is_pointer (value_type ty)) h);
-  points = λ p. refl;
+  points = refl;
+  unshared = λ v. refl;
 }
 variable_type_by ss name mode.Shared ty init shared h k = record {
   known = shared_known ss (ty.stars == 0);
   single = shared_single (ty.stars == 0);
-  points = λ p. shared_points (ty.stars == 0) p;
+  points = shared_points ss (ty.stars == 0);
+  unshared = λ v. shared_no_value (ty.stars == 0) v;
 }
 
 pub variable_type_of :
     (ss : List StructDef) (d : Decl) (shared : ValueType) → may_be shared d.mode (value_type d.ty) ≡ true →
     base_known ss (value_type d.ty).base ≡ true → VariableType ss d
 variable_type_of ss d shared h k = variable_type_by ss d.name d.mode d.ty d.init shared h k
+
+shared_by :
+    (ss : List StructDef) (name : Name) (m : Mode) (ty : Ty) (init : Option Written) → is_shared_mode m ≡ true →
+    (variable ss (record { name = name; mode = m; ty = ty; init = init })).pointer ≡ Some 0
+shared_by ss name mode.Plain ty init h = absurd (false≢true h)
+shared_by ss name mode.Local ty init h = absurd (false≢true h)
+shared_by ss name mode.Shared ty init h = refl
+
+pub shared_variable :
+    (ss : List StructDef) (d : Decl) → is_shared_mode d.mode ≡ true → (variable ss d).pointer ≡ Some 0
+shared_variable ss d h = shared_by ss d.name d.mode d.ty d.init h
 
 -- ---- variables as expressions
 
@@ -107,41 +126,53 @@ module _ (ss : List StructDef) (fs : List Func) (vs : List Decl) (c : Scope)
         kind = variable_type_of ss d h.shared h.right h.known;
       }
 
+  there : (x : Text) (d : Decl) → Here x d → variable_at c (number name_of vs x) ≡ variable ss d
+  there x d h =
+      ap (λ l. get_or l (number name_of vs x) no_variable) variables
+      ∙ read name_of vs x d (numbered name_of vs x d h.named) (variable ss) no_variable
+
   pub good_variable :
       (at : Span) (x : Text) (d : Decl) → Here x d →
       Good ss c sc (parts.Variable x) (variable_type d) (named resolving at (variable_is resolving x) x)
   good_variable at x d h =
       let n = number name_of vs x in
-      let there : variable_at c n ≡ variable ss d =
-      ap (λ l. get_or l n no_variable) variables ∙ read name_of vs x d (numbered name_of vs x d h.named)
-      (variable ss) no_variable in
       record {
         type = ap (λ o. or_number (option_map variable_type o)) h.named;
         known = h.kind.known;
         sound = λ k. h.inside;
-        points = λ k. ap (λ v. v.pointer) there ∙ h.kind.points k;
+        kinds = λ k. tt;
+        points = ap (λ v. v.pointer) (there x d h) ∙ h.kind.points;
         stands = λ k. absurd (false≢true k);
         access = λ k. absurd (true≢false (sym k ∙ h.kind.single));
-        cell = λ k l. absurd (false≢true l);
-        shape = λ k. absurd (true≢false (sym k ∙ (or_parts (is_struct (variable_type d)) _ h.kind.single).0));
+        variable = λ k. refl;
         left = λ k l. refl;
         set = λ y k. let same_place : (at, n) ≡ y = cc in subst (λ z. IsIn z.1 sc) same_place h.inside;
+        holds = λ y k v.
+            let same_place : (at, n) ≡ y = cc in
+            subst (λ z. Holds c z.1 (pointer_as ss (variable_type d))) same_place (
+            record {
+              pointer = ap (λ v. v.pointer) (there x d h) ∙ h.kind.points;
+              shared = ap (λ v. v.shared) (there x d h) ∙ h.kind.unshared v;
+            }
+            );
       }
 
   -- `&` and a shared variable
   pub good_address :
-      (at : Span) (x : Text) (d : Decl) → Here x d → Good ss c sc parts.Other Shared (named resolving at Shared x)
-  good_address at x d h =
+      (at : Span) (x : Text) (d : Decl) → Here x d → is_shared_mode d.mode ≡ true →
+      Good ss c sc parts.Other Shared (named resolving at Shared x)
+  good_address at x d h m =
       let n = number name_of vs x in
       record {
         type = refl;
         known = refl;
         sound = λ k. h.inside;
-        points = λ k. absurd (false≢true k);
+        kinds = λ k. tt;
+        points = ap (λ v. v.pointer) (there x d h) ∙ shared_variable ss d m;
         stands = λ k. absurd (false≢true k);
         access = λ k. absurd (false≢true k);
-        cell = λ k l. absurd (false≢true l);
-        shape = λ k. absurd (false≢true k);
+        variable = λ k. refl;
         left = λ k l. refl;
         set = λ y k. let same_place : (at, n) ≡ y = cc in subst (λ z. IsIn z.1 sc) same_place h.inside;
+        holds = λ y k v. absurd (false≢true v);
       }
