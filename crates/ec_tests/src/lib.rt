@@ -13,6 +13,8 @@ mod edge;
 #[cfg(test)]
 mod lex;
 #[cfg(test)]
+mod lowering;
+#[cfg(test)]
 mod machine;
 #[cfg(test)]
 mod meaning;
