@@ -3,9 +3,6 @@
 //! comes from an evaluator and a lowering written apart from these.
 #![tactic(auto)]
 
-ghost use Rattle.std.specs.Prelude.{IfOk, IfSome};
-ghost use Rattle.ec_types.specs.Programs.{IsTyped};
-
 mod forms;
 mod telling;
 
@@ -45,9 +42,7 @@ fn numbers(alloc: Global, words: &str) -> Result<Vec<i64>, Fail<Flaw>> {
 }
 
 /// The typed program of a text, if it has one.
-fn typed(alloc: Global, text: &[u8]) -> Option<Typed>
-    ensures { IfSome result (λ t. IsTyped t) }
-{
+fn typed(alloc: Global, text: &[u8]) -> Option<Typed> {
     if text.len() > MAX_SOURCE as usize {
         return None;
     }
@@ -57,9 +52,7 @@ fn typed(alloc: Global, text: &[u8]) -> Option<Typed>
 }
 
 /// The typed program in a file.
-fn program_in(rt: &HostRuntime, file: &str) -> Result<Typed, Fail<Flaw>>
-    ensures { IfOk result (λ t. IsTyped t) }
-{
+fn program_in(rt: &HostRuntime, file: &str) -> Result<Typed, Fail<Flaw>> {
     let Ok(text) = fs::read(rt, file) else {
         return Err(Fail::Refused(Flaw::NoFile));
     };

@@ -1,5 +1,5 @@
 //! Programs.
-ghost use Rattle.std.specs.Prelude.{◌≡◌, ◌++◌, length, map, IfOk};
+ghost use Rattle.std.specs.Prelude.{◌≡◌, ◌++◌, length, map, IfOk, OnOk};
 ghost use Rattle.ec_resolve.specs.Erased as erased;
 ghost use Rattle.ec_simple.specs.Lower as low;
 ghost use Rattle.ec_simple.specs.Written.{PutsWritten, results};
@@ -103,7 +103,8 @@ fn functions(alloc: Global, named: &[&Func], all: &[Function]) -> Result<List<SF
 
 /// The form of a program's blocks and functions.
 fn form_of(alloc: Global, t: &Typed) -> Result<Form, AllocError>
-    ensures { IfOk result (λ f. f ≡ low.lowered t.now) }
+    ensures lowered { IfOk result (λ f. f ≡ low.lowered t.now) }
+    ensures typed { OnOk result (IsTyped t.now) }
 {
     let items = t.program().items.as_slice();
     let shapes = shapes(alloc, items)?;
@@ -113,9 +114,8 @@ fn form_of(alloc: Global, t: &Typed) -> Result<Form, AllocError>
     Ok(Form { shapes, funcs })
 }
 
-/// The simple form of a typed program. That it is typed is what `check` says of each program that it gives.
+/// The simple form of a typed program.
 pub fn lower(alloc: Global, t: &Typed) -> Result<Simple, NoMemory>
-    requires { IsTyped t.now }
     ensures { IfOk result (λ s. s ≡ low.lowered t.now) }
 {
     let form = form_of(alloc, t)?;

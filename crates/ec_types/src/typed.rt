@@ -76,8 +76,10 @@ impl Typed {
         Ok(Typed { program, sizes })
     }
 
+    /// The program, which is refused for nothing.
     pub fn program(&self) -> &Program
-        ensures { result.now ≡ self.now }
+        ensures value { result.now ≡ self.now }
+        ensures typed { IsTyped self.now }
     {
         &self.program
     }
