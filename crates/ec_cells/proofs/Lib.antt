@@ -1,0 +1,3 @@
+-- what single functions rest on
+pub mod Rows
+pub mod Fresh
