@@ -1,0 +1,5 @@
+-- what single functions rest on
+pub mod Lists
+pub mod Fibers
+-- what the law of effects rests on
+pub mod Alone

@@ -1,0 +1,2 @@
+-- what a unit keeps to
+pub mod Room
