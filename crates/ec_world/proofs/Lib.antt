@@ -1,0 +1,5 @@
+-- what single functions rest on
+pub mod Lists
+-- what the laws of steps rest on
+pub mod Handled
+pub mod Enabled
