@@ -1,0 +1,5 @@
+-- in the order in which they rest on each other
+pub mod Numbered
+pub mod Units
+pub mod Nodes
+pub mod Worlds
