@@ -1,6 +1,6 @@
 #!/bin/sh
 # What `lower` takes for sources of 1 MiB: lets the program of tests ec_corpus lower 4,096 functions that call each other, and
-# 1,400 functions of 256 variables, and prints the seconds (the median of five runs) and the peak of memory; reading, typing and
+# 1,385 functions of 256 variables, and prints the seconds (the median of five runs) and the peak of memory; reading, typing and
 # telling how many statements there are is in it. To be run by hand, on a machine that does nothing else, where ec_corpus is
 # built (`rt run` in crates/ec_corpus).
 #
@@ -25,11 +25,12 @@ source_of() {
             }
             print "int main(int n){ return f0(n); }"
         } else {
-            for (i = 0; i < 1400; i++) {
-                text = "int f" i "(int p){int a"
-                for (v = 0; v < 254; v++) text = text ",b" sprintf("%c%c", 97 + int(v / 26), 97 + v % 26)
-                print text ";a=p+baa;return a;}"
-            }
+            letters = "abcdefghijklmnoqrstuvwxyz"
+            names = "a"
+            for (v = 2; v <= 25; v++) names = names "," substr(letters, v, 1)
+            for (v = 1; v <= 25; v++) names = names "," toupper(substr(letters, v, 1))
+            for (v = 0; v < 205; v++) names = names "," sprintf("%c%c", 65 + int(v / 26), 97 + v % 26)
+            for (i = 0; i < 1385; i++) print "int f" i "(int p){int " names ";a=p+b;return a;}"
             print "int main(){ return 0; }"
         }
     }' | head -c 1048576
